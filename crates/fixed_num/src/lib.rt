@@ -1,0 +1,19 @@
+//! Whole numbers of millionths: their ranges, the rounded quotient, and the small types that every
+//! crate of the workspace shares.
+//!
+//! A *unit* is one millionth. Nothing here takes memory but [`Name::copy`].
+#![tactic(auto)]
+
+pub mod factor;
+pub mod items;
+pub mod memory;
+pub mod name;
+pub mod quotient;
+pub mod value;
+
+pub use factor::{Factor, factor_of};
+pub use items::Items;
+pub use memory::Memory;
+pub use name::Name;
+pub use quotient::quot_even;
+pub use value::{Value, value_of};
