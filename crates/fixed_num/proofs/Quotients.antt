@@ -1,5 +1,5 @@
 -- What the rounded quotient is: it meets its relation, only it does, and how large it can be.
-use Rattle.std.proofs.Common.{◌≡◌, ℕ, zero, suc, ◌+◌, ◌-◌, ◌*◌, ◌/◌, ◌%◌, ◌^◌, ◌<◌, ◌≤◌, ℤ, pos, negsuc, neg_ℤ, ◌-ℤ◌, ◌*ℤ◌, unsigned_abs, nat_lt, cond, inl, inr, ◌⊎◌, true, false, arith, refl, sym, ◌∙◌, ap, subst}
+use Rattle.std.proofs.Common.{◌≡◌, ℕ, zero, suc, ◌+◌, ◌-◌, ◌*◌, ◌/◌, ◌%◌, ◌^◌, ◌<◌, ◌≤◌, ℤ, pos, negsuc, neg_ℤ, ◌-ℤ◌, ◌*ℤ◌, unsigned_abs, nat_lt, cond, inl, inr, ◌⊎◌, true, false, arith, refl, ap}
 use Rattle.std.proofs.Math.Nat.{zero-mul, add-mul, div-add-mod', mul-le-mul_right}
 use lib.Signed.{lt_z}
 use mir.Syntax.{w128}

@@ -9,6 +9,8 @@ pub mod items;
 pub mod memory;
 pub mod name;
 pub mod quotient;
+#[cfg(test)]
+mod tests;
 pub mod value;
 
 pub use factor::{Factor, factor_of};

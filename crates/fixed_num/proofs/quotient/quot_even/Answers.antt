@@ -1,4 +1,4 @@
-use Rattle.std.proofs.Common.{rules, arith, ◌≡◌, ◌<◌, unsigned_abs, sym, ◌∙◌, ap, subst, ℤ}
+use Rattle.std.proofs.Common.{rules, arith, ◌≡◌, unsigned_abs, sym, ◌∙◌, ap, subst, ℤ}
 use mir.Syntax.{w128}
 use mir.Val.{SFits}
 use Rattle.std.proofs.lemmas.Int.{ints, to_z-of_z, to_z_pos}
