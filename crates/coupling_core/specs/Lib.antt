@@ -1,0 +1,10 @@
+pub mod Kept
+pub mod KeptSide
+pub mod KeptView
+pub mod InStep
+pub mod CoreState
+pub mod CoreStep
+pub mod StandsFor
+pub mod TakeTurn
+pub mod TurnStep
+pub mod LegalHistory

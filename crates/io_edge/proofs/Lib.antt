@@ -1,0 +1,2 @@
+pub mod ShelvedFiles
+pub mod TakenBytes

@@ -1,0 +1,9 @@
+pub mod Counter
+pub mod FileMap
+pub mod FileTable
+pub mod Loads
+pub mod MemoryFiles
+pub mod MemorySink
+pub mod Rose
+pub mod Shelved
+pub mod Taken
