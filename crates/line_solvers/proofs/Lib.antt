@@ -1,0 +1,2 @@
+pub mod WeightedSums
+pub mod Checks

@@ -1,0 +1,5 @@
+pub mod RowsStep
+pub mod RowsSound
+pub mod LineMeaning
+pub mod LineSolver
+pub mod CaseMeaning
