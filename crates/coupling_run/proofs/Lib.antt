@@ -1,0 +1,6 @@
+pub mod Plain
+pub mod SameTrees
+pub mod Accepting
+pub mod Turns
+pub mod Windows
+pub mod Truncated

@@ -1,0 +1,17 @@
+pub mod SameTree
+pub mod Form
+pub mod Accepted
+pub mod InputWave
+pub mod Solve
+pub mod CoupledLoop
+pub mod LoopResults
+pub mod Turn
+pub mod Tally
+pub mod Drive
+pub mod ReportText
+pub mod Cases
+pub mod Status
+pub mod Words
+pub mod Outcome
+pub mod Answer
+pub mod Unanswered

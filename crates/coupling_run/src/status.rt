@@ -1,0 +1,38 @@
+ghost use Rattle.std.specs.Prelude.{◌≡◌};
+ghost use Rattle.coupling_run.specs.Status.{status_number};
+
+/// How the program ends. Only the statuses with a text write any bytes.
+#[derive(Clone, Copy, Debug, PartialEq, Eq)]
+pub enum Status {
+    /// The report was written.
+    Ok,
+    /// The words ask for nothing that is served.
+    Usage,
+    /// A load failed.
+    ReadFault,
+    /// A file is refused.
+    Refused,
+    /// A solver faulted.
+    RunFault,
+    /// A put failed.
+    WriteFault,
+    /// Memory was wanting.
+    Memory,
+}
+
+impl Status {
+    /// The status with which the program ends.
+    pub fn number(self) -> u8
+        ensures { result ≡ status_number self }
+    {
+        match self {
+            Status::Ok => 0,
+            Status::Usage => 2,
+            Status::ReadFault => 3,
+            Status::Refused => 4,
+            Status::RunFault => 5,
+            Status::WriteFault => 6,
+            Status::Memory => 7,
+        }
+    }
+}
