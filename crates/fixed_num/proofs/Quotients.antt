@@ -1,6 +1,7 @@
 -- What the rounded quotient is: it meets its relation, only it does, and how large it can be.
-use Rattle.std.proofs.Common.{◌≡◌, ℕ, zero, suc, ◌+◌, ◌-◌, ◌*◌, ◌/◌, ◌%◌, ◌^◌, ◌<◌, ◌≤◌, ℤ, pos, negsuc, neg_ℤ, ◌-ℤ◌, ◌*ℤ◌, unsigned_abs, nat_lt, cond, inl, inr, ◌⊎◌, true, false, arith, refl, ap}
-use Rattle.std.proofs.Math.Nat.{zero-mul, add-mul, div-add-mod', mul-le-mul_right}
+use Rattle.std.proofs.Common.{◌≡◌, ℕ, zero, suc, ◌+◌, ◌-◌, ◌*◌, ◌/◌, ◌%◌, ◌^◌, ◌<◌, ◌≤◌, ℤ, pos, negsuc, neg_ℤ, ◌+ℤ◌, ◌-ℤ◌, ◌*ℤ◌, unsigned_abs, nat_lt, cond, inl, inr, ◌⊎◌, true, false, arith, add-one, refl, sym, ap, ◌∙◌}
+use Rattle.std.proofs.Math.Nat.{zero-mul, one-mul, add-mul, div-add-mod', mul-le-mul_right}
+use lib.IntN.{suc_ℤ, suc_ℤ-*ℤ, +ℤ_idr}
 use lib.Signed.{lt_z}
 use mir.Syntax.{w128}
 use mir.Val.{SFits, hbits}
@@ -116,3 +117,60 @@ quotient_of_natural (negsuc a) b m above e = absurd (grind (arith, ints))
 pub natural_fits : (a : ℤ) (m : ℕ) → lt_z a (pos 0) ≡ false → SFits w128 a → m ≤ unsigned_abs a → m < 2 ^ hbits w128
 natural_fits (pos a) m above fits bound = omega (arith, fits.sfits)
 natural_fits (negsuc a) m above fits bound = absurd (grind (arith, ints))
+
+negsuc-up : (n : ℕ) → negsuc (suc n) +ℤ pos 1 ≡ negsuc n
+negsuc-up n = omega (arith, ints)
+
+-- one more time a number
+suc-times : (k b : ℕ) → suc k * b ≡ k * b + b
+suc-times k b = ap (λ n. n * b) (sym (add-one k)) ∙ add-mul k 1 b ∙ ap (λ n. k * b + n) (one-mul b)
+
+-- k times the divisor further on
+suc_ℤ-is : (m : ℤ) → m +ℤ pos 1 ≡ suc_ℤ m
+suc_ℤ-is (pos n) = rw add-one refl
+suc_ℤ-is (negsuc zero) = refl
+suc_ℤ-is (negsuc (suc n)) = negsuc-up n
+
+add-step : (m : ℤ) (k : ℕ) → m +ℤ pos (suc k) ≡ (m +ℤ pos k) +ℤ pos 1
+add-step m k = omega (arith, ints)
+
+product-add : (m : ℤ) (k b : ℕ) → (m +ℤ pos k) *ℤ pos b ≡ m *ℤ pos b +ℤ pos (k * b)
+product-add m zero b = rw (zero-mul b) (ap (λ (x : ℤ). x *ℤ pos b) (+ℤ_idr m) ∙ sym (+ℤ_idr (m *ℤ pos b)))
+product-add m (suc k) b =
+    let product = suc-times k b in
+    let sums : (m *ℤ pos b +ℤ pos (k * b)) +ℤ pos b ≡ m *ℤ pos b +ℤ pos (k * b + b) = omega (arith, ints) in
+    ap (λ (x : ℤ). x *ℤ pos b) (add-step m k ∙ suc_ℤ-is (m +ℤ pos k)) ∙ suc_ℤ-*ℤ (m +ℤ pos k) (pos b) ∙ ap (λ (x : ℤ). x +ℤ pos b) (product-add m k b) ∙ sums ∙ ap (λ x. m *ℤ pos b +ℤ pos x) (sym product)
+
+-- q apart, so q at most in distances
+triangle : (a p : ℤ) (q : ℕ) → q ≤ unsigned_abs (a -ℤ p) + unsigned_abs (a -ℤ (p +ℤ pos q))
+triangle a p q = omega (arith, ints)
+
+parity : (m : ℤ) → unsigned_abs m % 2 ≡ 0 → unsigned_abs (m +ℤ pos 1) % 2 ≡ 0 → ⊥
+parity (pos n) even next = absurd (omega arith)
+parity (negsuc n) even next = (let is : unsigned_abs (negsuc n +ℤ pos 1) ≡ n = omega (arith, ints) in absurd (let e : n % 2 ≡ 0 = rw is at next in omega arith))
+
+distances : (a m : ℤ) (b k : ℕ) → suc k * b ≤ distance a b m + distance a b (m +ℤ pos (suc k))
+distances a m b k = rw (product-add m (suc k) b) (triangle a (m *ℤ pos b) (suc k * b))
+
+-- a number further on than a rounded quotient is none
+apart : (a m : ℤ) (b k : ℕ) → 0 < b → IsRoundedQuotient a b m → IsRoundedQuotient a b (m +ℤ pos (suc k)) → ⊥
+apart a m b zero h r s =
+    let one : 1 * b ≡ b = one-mul b in
+    let far : b ≤ distance a b m + distance a b (m +ℤ pos 1) = rw one at (distances a m b 0) in
+    parity m (r.even_midway (omega (arith, r.near, s.near, far))) (s.even_midway (omega (arith, r.near, s.near, far)))
+apart a m b (suc k) h r s =
+    let product = suc-times (suc k) b ∙ ap (λ n. n + b) (suc-times k b) in
+    let far : k * b + b + b ≤ distance a b m + distance a b (m +ℤ pos (suc (suc k))) = rw product at (distances a m b (suc k)) in
+    omega (arith, r.near, s.near, far)
+
+-- no other number is one
+pub only_quotient : (a m n : ℤ) (b : ℕ) → 0 < b → IsRoundedQuotient a b m → IsRoundedQuotient a b n → n ≡ m
+only_quotient a m n b h r s =
+    let by_difference : (d : ℤ) → n -ℤ m ≡ d → n ≡ m = λ d. elim d as (λ d. n -ℤ m ≡ d → n ≡ m) [
+      | pos k ↦ elim k as (λ k. n -ℤ m ≡ pos k → n ≡ m) [
+        | zero ↦ λ e. omega (arith, ints)
+        | suc k ↦ λ e. absurd (let at : n ≡ m +ℤ pos (suc k) = omega (arith, ints) in apart a m b k h r (rw at at s))
+      ]
+      | negsuc k ↦ λ e. absurd (let at : m ≡ n +ℤ pos (suc k) = omega (arith, ints) in apart a n b k h s (rw at at r))
+    ] in
+    by_difference (n -ℤ m) refl

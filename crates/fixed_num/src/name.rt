@@ -19,12 +19,14 @@ impl Model for Name {
 }
 
 impl Name {
+    /// The name with this text.
     pub fn from_string(text: String) -> Name
         ensures { result ≡ string_bytes text }
     {
         Name { text }
     }
 
+    /// The name's text.
     pub fn as_str(&self) -> &str
         ensures { result.now ≡ self.now }
     {

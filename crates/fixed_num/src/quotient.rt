@@ -1,4 +1,4 @@
-ghost use Rattle.std.specs.Prelude.{◌≡◌, ℕ, pos, neg_ℤ, ◌≤ℤ◌, ◌<◌, ◌≤◌, ◌^◌, unsigned_abs};
+ghost use Rattle.std.specs.Prelude.{◌≡◌, ℤ, pos, neg_ℤ, ◌≤ℤ◌, ◌<◌, ◌≤◌, ◌^◌, unsigned_abs};
 ghost use Rattle.fixed_num.specs.Numbers.{nearest_of, quotient, IsRoundedQuotient};
 
 /// `q(a, b)`: the whole number nearest to a/b, and of two equally near ones the even one.
@@ -8,6 +8,7 @@ pub fn quot_even(a: i128, b: i128) -> i128
     requires positive { pos 1 ≤ℤ b }
     requires small { b ≤ℤ pos (10 ^ 36) }
     ensures nearest { IsRoundedQuotient a (unsigned_abs b) result }
+    ensures only { (n : ℤ) → IsRoundedQuotient a (unsigned_abs b) n → n ≡ result }
     ensures value { result ≡ quotient a (unsigned_abs b) }
 {
     let magnitude = nearest(a.unsigned_abs(), b.unsigned_abs());

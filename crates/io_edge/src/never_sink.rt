@@ -7,6 +7,7 @@ use crate::sink::{PutErr, Sink};
 pub struct NeverSink;
 
 impl NeverSink {
+    /// A sink that has taken nothing.
     pub fn new() -> NeverSink {
         NeverSink
     }

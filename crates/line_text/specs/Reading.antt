@@ -5,12 +5,15 @@ use Rattle.line_text.specs.Spelling.{Spelling, is_number, decimal_places, magnit
 use Rattle.line_text.specs.declared.error.NumErr.{NumErr}
 use Rattle.line_text.specs.declared.error.NumErr.TheVariants.{Empty, Digit, TooManyDecimals, Range}
 
+-- a point: its code is 46
 abbrev pub is_point : ℕ → Bool
 is_point c = c == 46
 
+-- a minus stands in front: its code is 45
 abbrev pub has_minus : List ℕ → Bool
 has_minus text = slice_index text 0 == 45
 
+-- what stands after the minus, where there is one
 abbrev pub without_minus : List ℕ → List ℕ
 without_minus text = if has_minus text then drop 1 text else text
 

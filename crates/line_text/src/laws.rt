@@ -15,7 +15,8 @@ pub fn printed_reads_back()
 /// nothing.
 pub fn one_printed_form()
     ensures printed { (units : ℤ) → unsigned_abs units ≤ 2 ^ 127 → IsPrintedForm (value_text units) }
-    ensures same { (a b : List ℕ) (units : ℤ) → IsPrintedForm a → IsPrintedForm b → reading a ≡ Ok units → reading b ≡ Ok units → a ≡ b }
+    ensures same { (a b : List ℕ) (units : ℤ) → IsPrintedForm a → IsPrintedForm b
+        → reading a ≡ Ok units → reading b ≡ Ok units → a ≡ b }
 {}
 
 /// A text spells one number. A law, which the prover checks; the call does nothing.

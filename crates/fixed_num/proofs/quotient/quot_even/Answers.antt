@@ -3,7 +3,7 @@ use mir.Syntax.{w128}
 use mir.Val.{SFits}
 use Rattle.std.proofs.lemmas.Int.{ints, to_z-of_z, to_z_pos}
 use Rattle.fixed_num.specs.Numbers.{nearest_of, IsRoundedQuotient}
-use Rattle.fixed_num.proofs.Quotients.{quotient_of_negative, quotient_of_natural, natural_fits, quotient-IsRoundedQuotient}
+use Rattle.fixed_num.proofs.Quotients.{quotient_of_negative, quotient_of_natural, natural_fits, quotient-IsRoundedQuotient, only_quotient}
 use Rattle.fixed_num.proofs.quotient.quot_even.Goals as goal
 use Rattle.fixed_num.proofs.quotient.quot_even.Goals.{After-nearest-magnitude}
 
@@ -33,3 +33,9 @@ returns-then-a-lt0-clause-nearest c = subst (λ (n : ℤ). IsRoundedQuotient c.a
 
 pub returns-else-a-lt0-clause-nearest : goal.returns-else-a-lt0-clause-nearest
 returns-else-a-lt0-clause-nearest c = subst (λ (n : ℤ). IsRoundedQuotient c.args.a (unsigned_abs c.args.b) n) (sym (returns-else-a-lt0-clause-value c)) (quotient-IsRoundedQuotient c.args.a (unsigned_abs c.args.b) (omega (arith, ints)))
+
+pub returns-then-a-lt0-clause-only : goal.returns-then-a-lt0-clause-only
+returns-then-a-lt0-clause-only c = λ n is. only_quotient c.args.a _ n (unsigned_abs c.args.b) (omega (arith, ints)) (returns-then-a-lt0-clause-nearest c) is
+
+pub returns-else-a-lt0-clause-only : goal.returns-else-a-lt0-clause-only
+returns-else-a-lt0-clause-only c = λ n is. only_quotient c.args.a _ n (unsigned_abs c.args.b) (omega (arith, ints)) (returns-else-a-lt0-clause-nearest c) is
