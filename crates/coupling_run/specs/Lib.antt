@@ -13,5 +13,6 @@ pub mod Cases
 pub mod Status
 pub mod Words
 pub mod Outcome
+pub mod WorkedRuns
 pub mod Answer
 pub mod Unanswered
