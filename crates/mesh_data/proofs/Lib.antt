@@ -1,0 +1,2 @@
+mod DistanceLaws
+mod PairSums

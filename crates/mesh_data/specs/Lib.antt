@@ -1,0 +1,5 @@
+pub mod AnyMeshes
+pub mod Distances
+pub mod Meshes
+pub mod Points
+pub mod Refusals
