@@ -1,0 +1,4 @@
+pub mod Shape
+pub mod IsWave
+pub mod WaveValue
+pub mod Between
