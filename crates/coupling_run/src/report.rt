@@ -88,7 +88,6 @@ fn push_components(alloc: Global, state: &[i64], text: &mut Vec<u8>) -> Result<(
 }
 
 /// The line of a fault.
-
 pub fn fault_line(alloc: Global, fault: &Fault) -> Result<Vec<u8>, Memory>
     ensures { IfOk result (λ text. text.items ≡ fault_line fault.now) }
 {

@@ -1,5 +1,6 @@
-ghost use Rattle.std.specs.Prelude.{◌≡◌, IfSome, IsSome, ◌↔◌};
+ghost use Rattle.std.specs.Prelude.{◌≡◌, ◌^◌, IfSome, IsSome, ◌↔◌};
 ghost use Rattle.fixed_num.specs.Numbers.{IsFactor};
+ghost use Rattle.fixed_num.specs.Relaxation.{within};
 
 use std::marker::Model;
 
@@ -47,4 +48,14 @@ pub fn factor_of(units: i128) -> Option<Factor>
     Some(Factor {
         units: units as i64,
     })
+}
+
+/// The factor that is nearest to so many units.
+pub(crate) fn nearest_factor(units: i128) -> Factor
+    ensures { result ≡ within (10 ^ 9) units }
+{
+    let limit = i128::from(FACTOR_LIMIT);
+    Factor {
+        units: units.clamp(-limit, limit) as i64,
+    }
 }

@@ -8,7 +8,9 @@ pub mod factor;
 pub mod items;
 pub mod memory;
 pub mod name;
+pub mod norms;
 pub mod quotient;
+pub mod relaxation;
 #[cfg(test)]
 mod tests;
 pub mod value;
@@ -17,5 +19,7 @@ pub use factor::{Factor, factor_of};
 pub use items::Items;
 pub use memory::Memory;
 pub use name::Name;
+pub use norms::{dot, norm, root_floor};
 pub use quotient::quot_even;
+pub use relaxation::{aitken, relax};
 pub use value::{Value, value_of};

@@ -1,4 +1,4 @@
-use crate::{Items, Name, factor_of, quot_even, value_of};
+use crate::{Items, Name, aitken, dot, factor_of, norm, quot_even, relax, root_floor, value_of};
 use std::test::Fail;
 
 #[test]
@@ -46,4 +46,48 @@ fn names_and_items_give_back_what_they_hold(rt: HostRuntime) -> Result<(), Fail>
     assert_eq!(rt; items.len(), 3);
     assert_eq!(rt; items.into_vec().as_slice(), [1, 2, 3].as_slice());
     Ok(())
+}
+
+#[test]
+fn norms_and_products(rt: HostRuntime) {
+    assert_eq!(rt; root_floor(15), 3);
+    assert_eq!(rt; root_floor(10u128.pow(36)), 10u64.pow(18));
+    assert_eq!(rt; norm(&[3, -4]), 5);
+    assert_eq!(rt; norm(&[]), 0);
+    assert_eq!(rt; dot(&[1, 2, 3], &[4, -5, 6]), 12);
+}
+
+/// The relaxed units, or None where a number is out of range.
+fn relaxed(x: i128, y: i128, w: i128) -> Option<i64> {
+    match (value_of(x), value_of(y), factor_of(w)) {
+        (Some(x), Some(y), Some(w)) => relax(x, y, w).map(|value| value.get()),
+        _ => None,
+    }
+}
+
+#[test]
+fn relaxes_by_a_rounded_part_of_the_way(rt: HostRuntime) {
+    let cases = [
+        (1_000_000, 3_000_000, 500_000, Some(2_000_000)),
+        (0, 1, 500_000, Some(0)),
+        (0, 3, 500_000, Some(2)),
+        (-10_000_000_000_000, 10_000_000_000_000, 1_000_000_000, None),
+    ];
+    for (x, y, w, value) in cases {
+        assert!(rt; relaxed(x, y, w) == value, "from {x} to {y}");
+    }
+}
+
+#[test]
+fn aitken_factors_have_their_sign_and_their_limits(rt: HostRuntime) {
+    if let Some(half) = factor_of(500_000) {
+        assert_eq!(rt; aitken(half, 1, 2).get(), -250_000);
+        assert_eq!(rt; aitken(half, -1, 2).get(), 250_000);
+    }
+    if let Some(greatest) = factor_of(1_000_000_000) {
+        assert_eq!(rt;
+            aitken(greatest, 16 * 10i128.pow(31), 1).get(),
+            -1_000_000_000
+        );
+    }
 }

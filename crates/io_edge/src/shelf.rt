@@ -28,6 +28,7 @@ impl Model for Shelf {
 }
 
 impl Shelf {
+    /// No files.
     pub fn new(alloc: Global) -> Shelf
         ensures { result ≡ finite.empty }
     {
@@ -48,6 +49,7 @@ impl Shelf {
         Ok(())
     }
 
+    /// The bytes of the file with this name, or None where there is none.
     pub fn get(&self, name: &str) -> Option<&[u8]>
         ensures { option_map (λ file. file.now) result ≡ finite.get self.now name.now }
     {

@@ -1,4 +1,4 @@
-ghost use Rattle.std.specs.Prelude.{◌≡◌, ◌*◌, ◌≤◌, ◌↔◌, pos, replicate, IfOk, IsTrue};
+ghost use Rattle.std.specs.Prelude.{◌≡◌, ◌*◌, ◌↔◌, pos, replicate, IfOk, IsTrue};
 ghost use Rattle.waveform.specs.Shape.{IsLike};
 
 use fixed_num::{Items, Memory, Value};
@@ -14,13 +14,13 @@ pub struct Field {
 }
 
 impl Field {
-    /// The field of zeros on so many vertices.
+    /// The field of zeros on so many vertices. More values than a `usize` counts are told as
+    /// `Memory`.
     pub fn zeros(alloc: Global, vertices: usize, components: u32) -> Result<Field, Memory>
-        requires { vertices * components ≤ usize.MAX }
         ensures components { IfOk result (λ field. field.components ≡ components) }
         ensures zeros { IfOk result (λ field. field.values ≡ replicate (vertices * components) (pos 0)) }
     {
-        let count = vertices * components as usize;
+        let count = vertices.checked_mul(components as usize).ok_or(Memory)?;
         let mut values = Vec::with_capacity(alloc, count)?;
         for _ in 0..count {
             values.push(Value::default())?;
