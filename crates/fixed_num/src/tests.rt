@@ -1,3 +1,5 @@
+ghost use Rattle.std.specs.Prelude.{◌≤◌, ◌*◌, ◌^◌, ◌≤ℤ◌, pos, unsigned_abs};
+
 use crate::{Items, Name, aitken, dot, factor_of, norm, quot_even, relax, root_floor, value_of};
 use std::test::Fail;
 
@@ -49,12 +51,38 @@ fn names_and_items_give_back_what_they_hold(rt: HostRuntime) -> Result<(), Fail>
 }
 
 #[test]
+fn roots_are_rounded_down(rt: HostRuntime) {
+    let cases = [
+        (0, 0),
+        (3, 1),
+        (4, 2),
+        (15, 3),
+        (16, 4),
+        (
+            999_999_999_999_999_999_999_999_999_999_999_999,
+            999_999_999_999_999_999,
+        ),
+        (
+            1_000_000_000_000_000_000_000_000_000_000_000_000,
+            1_000_000_000_000_000_000,
+        ),
+    ];
+    for (n, root) in cases {
+        assert_eq!(rt; root_floor(n), root, "of {n}");
+    }
+}
+
+#[test]
 fn norms_and_products(rt: HostRuntime) {
-    assert_eq!(rt; root_floor(15), 3);
-    assert_eq!(rt; root_floor(10u128.pow(36)), 10u64.pow(18));
-    assert_eq!(rt; norm(&[3, -4]), 5);
     assert_eq!(rt; norm(&[]), 0);
-    assert_eq!(rt; dot(&[1, 2, 3], &[4, -5, 6]), 12);
+    assert_eq!(rt; norm(&[3, -4]), 5);
+    assert_eq!(rt; norm(&[1, 1, 1]), 1);
+    assert_eq!(rt;
+        norm(&[40_000_000_000_000, 40_000_000_000_000]),
+        56_568_542_494_923
+    );
+    assert_eq!(rt; dot(&[], &[]), 0);
+    assert_eq!(rt; dot(&[-1, 2, 3], &[4, -5, 6]), 4);
 }
 
 /// The relaxed units, or None where a number is out of range.
@@ -67,27 +95,99 @@ fn relaxed(x: i128, y: i128, w: i128) -> Option<i64> {
 
 #[test]
 fn relaxes_by_a_rounded_part_of_the_way(rt: HostRuntime) {
+    let most = 10_000_000_000_000;
     let cases = [
         (1_000_000, 3_000_000, 500_000, Some(2_000_000)),
+        (250_000, 625_000, 2_000_000, Some(1_000_000)),
         (0, 1, 500_000, Some(0)),
+        (0, 1, 500_001, Some(1)),
         (0, 3, 500_000, Some(2)),
-        (-10_000_000_000_000, 10_000_000_000_000, 1_000_000_000, None),
+        (0, -1, 500_000, Some(0)),
+        (0, -3, 500_000, Some(-2)),
+        (1, 4, 500_000, Some(3)),
+        (7, 9, -1_000_000, Some(5)),
+        (-most, most, 1_000_000, Some(10_000_000_000_000)),
+        (most, -most, 1_000_000, Some(-10_000_000_000_000)),
+        (10_000_000_000, 29_990_000_000, 1_000_000_000, None),
+        (most, most - 1, -1_000_000, None),
+        (-most, 1 - most, -1_000_000, None),
+        (-most, most, 1_000_000_000, None),
     ];
     for (x, y, w, value) in cases {
-        assert!(rt; relaxed(x, y, w) == value, "from {x} to {y}");
+        assert!(rt; relaxed(x, y, w) == value, "from {x} to {y} by {w}");
+    }
+}
+
+/// Aitken's next factor in units, or None where the last one is out of range.
+fn next_factor(last: i128, dot: i128, square: i128) -> Option<i64>
+    requires dot { unsigned_abs dot ≤ 16 * 10 ^ 31 }
+    requires positive { pos 1 ≤ℤ square }
+    requires square { square ≤ℤ pos (32 * 10 ^ 31) }
+{
+    factor_of(last).map(|last| aitken(last, dot, square).get())
+}
+
+#[test]
+fn aitken_factors_have_their_sign_and_are_rounded(rt: HostRuntime) {
+    let cases = [
+        (500_000, 1, 2, -250_000),
+        (500_000, -1, 2, 250_000),
+        (-500_000, 1, 2, 250_000),
+        (500_000, -62_500_000_000, 15_625_000_000, 2_000_000),
+        (1_000_000, 1, 2_000_000, 0),
+        (1_000_000, 3, 2_000_000, -2),
+        (1, 1, 2, 0),
+        (3, 1, 2, -2),
+    ];
+    for (last, dot, square, factor) in cases {
+        assert!(rt;
+            next_factor(last, dot, square) == Some(factor),
+            "after {last}, of {dot}"
+        );
     }
 }
 
 #[test]
-fn aitken_factors_have_their_sign_and_their_limits(rt: HostRuntime) {
-    if let Some(half) = factor_of(500_000) {
-        assert_eq!(rt; aitken(half, 1, 2).get(), -250_000);
-        assert_eq!(rt; aitken(half, -1, 2).get(), 250_000);
-    }
-    if let Some(greatest) = factor_of(1_000_000_000) {
-        assert_eq!(rt;
-            aitken(greatest, 16 * 10i128.pow(31), 1).get(),
-            -1_000_000_000
+fn aitken_factors_keep_their_limits(rt: HostRuntime) {
+    let cases = [
+        (
+            500_000,
+            -200_000_000_000_000_000,
+            100_000_000_000_000,
+            1_000_000_000,
+        ),
+        (1_000_000_000, 1, 1, -1_000_000_000),
+        (1_000_000_000, 2, 1, -1_000_000_000),
+        (1_000_000_000, -2, 1, 1_000_000_000),
+        (
+            1,
+            160_000_000_000_000_000_000_000_000_000_000,
+            1,
+            -1_000_000,
+        ),
+        (
+            1,
+            -160_000_000_000_000_000_000_000_000_000_000,
+            1,
+            1_000_000,
+        ),
+        (
+            1_000_000_000,
+            160_000_000_000_000_000_000_000_000_000_000,
+            1,
+            -1_000_000_000,
+        ),
+        (
+            1_000_000,
+            160_000_000_000_000_000_000_000_000_000_000,
+            320_000_000_000_000_000_000_000_000_000_000,
+            -500_000,
+        ),
+    ];
+    for (last, dot, square, factor) in cases {
+        assert!(rt;
+            next_factor(last, dot, square) == Some(factor),
+            "after {last}, of {dot}"
         );
     }
 }
