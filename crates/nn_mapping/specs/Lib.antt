@@ -1,0 +1,5 @@
+pub mod Nearest
+pub mod Mapping
+pub mod MappedField
+pub mod Overflows
+pub mod Refusals
