@@ -1,0 +1,3 @@
+mod ExampleOrder
+pub mod LooksThrough
+pub mod Partners

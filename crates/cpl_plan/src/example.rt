@@ -1,0 +1,30 @@
+ghost use Rattle.std.specs.Prelude.{◌≡◌, [], ◌∷◌};
+ghost use Rattle.cpl_plan.specs.ValidPlan.{IsValidPlan};
+ghost use Rattle.cpl_plan.specs.Needs.{needs};
+ghost use Rattle.cpl_plan.specs.ExamplePlan.{example_plan, two_participants, completed, posted};
+
+/// A plan with each kind of scheme is valid, and so is a plan of two participants: "for every valid
+/// plan" speaks of something.
+pub fn examples_are_valid()
+    ensures each_kind { IsValidPlan example_plan }
+    ensures two { IsValidPlan two_participants }
+{}
+
+/// The needs of the example's participants for the take of window 2 and iteration 3, as worked out
+/// by hand.
+pub fn worked_needs()
+    // In a serial-implicit scheme with 1, which it waits for one window behind; it is the second of
+    // 7 in a serial-explicit scheme.
+    ensures first_of_a_group { needs example_plan 0 2 3 ≡ completed 1 1 ∷ completed 7 2 ∷ [] }
+    // The second of the serial-implicit scheme; in a parallel-explicit scheme with 2.
+    ensures second_of_a_group { needs example_plan 1 2 3 ≡ posted 0 2 3 ∷ completed 2 1 ∷ [] }
+    // In a parallel-implicit scheme with 3, and with 1 as above.
+    ensures parallel { needs example_plan 2 2 3 ≡ completed 3 1 ∷ completed 1 1 ∷ [] }
+    ensures parallel_alone { needs example_plan 3 2 3 ≡ completed 2 1 ∷ [] }
+    // In a multi scheme of 4, 5 and 6, whose partners stand by number.
+    ensures multi_first { needs example_plan 4 2 3 ≡ completed 5 1 ∷ completed 6 1 ∷ [] }
+    ensures multi_second { needs example_plan 5 2 3 ≡ completed 4 1 ∷ completed 6 1 ∷ [] }
+    ensures multi_third { needs example_plan 6 2 3 ≡ completed 4 1 ∷ completed 5 1 ∷ [] }
+    // The first of 0 in a serial-explicit scheme.
+    ensures serial_first { needs example_plan 7 2 3 ≡ completed 0 1 ∷ [] }
+{}

@@ -1,0 +1,11 @@
+pub mod Orders
+pub mod Loops
+pub mod Waiting
+pub mod EdgeSteps
+pub mod Ready
+pub mod Placing
+pub mod GroupNodes
+pub mod Named
+pub mod NamedGroups
+pub mod GroupTestLemmas
+pub mod SmallOrders

@@ -1,0 +1,6 @@
+pub mod Cycle
+pub mod Edges
+pub mod GroupTests
+pub mod Groups
+pub mod Heads
+pub mod NodeOrder
