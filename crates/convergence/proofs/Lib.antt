@@ -1,0 +1,6 @@
+mod Changes
+mod NoChange
+mod Rows
+mod Scans
+mod Places
+mod Verdicts

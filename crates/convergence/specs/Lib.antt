@@ -1,0 +1,4 @@
+pub mod Change
+pub mod Holds
+pub mod Verdict
+pub mod Causes
