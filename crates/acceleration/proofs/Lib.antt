@@ -1,0 +1,11 @@
+pub mod Entries
+pub mod Spots
+pub mod Widths
+pub mod Sums
+pub mod NextFactors
+pub mod Exchanges
+pub mod Fronts
+pub mod Causes
+pub mod WaveLists
+pub mod Iterates
+pub mod RelaxationLaws

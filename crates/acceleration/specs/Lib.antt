@@ -1,0 +1,10 @@
+pub mod Exchanged
+pub mod Differences
+pub mod Residual
+pub mod RelaxerState
+pub mod Factors
+pub mod RelaxedWaves
+pub mod Outside
+pub mod RelaxedIterate
+pub mod Causes
+pub mod Laws
