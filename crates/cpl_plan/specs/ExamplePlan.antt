@@ -150,37 +150,51 @@ completed owner window = record { owner = owner; item = Completed window }
 abbrev pub posted : (owner window iteration : ℕ) → Need
 posted owner window iteration = record { owner = owner; item = Posted window iteration }
 
+-- the first of two participants writes on its own mesh, and has a watch-point
+abbrev pub writer : Part
+writer =
+    record {
+      name = 65 ∷ [];
+      provides = 0 ∷ [];
+      receives = [];
+      writes = entry 0 0 ∷ [];
+      reads = [];
+      maps = [];
+      watches = record { name = 116 ∷ 105 ∷ 112 ∷ []; mesh = 0; at = pos 0 ∷ pos 0 ∷ [] } ∷ [];
+      group = None;
+    }
+
+-- the second receives that mesh, and maps what it reads to its own
+abbrev pub reader : Part
+reader =
+    record {
+      name = 66 ∷ [];
+      provides = 1 ∷ [];
+      receives = 0 ∷ [];
+      writes = [];
+      reads = entry 0 1 ∷ [];
+      maps = read_from 0 1 ∷ [];
+      watches = [];
+      group = None;
+    }
+
+abbrev pub serial_scheme : Scheme
+serial_scheme =
+    record { kind = SerialExplicit; members = 0 ∷ 1 ∷ []; min = 1; max = 1; measures = []; accel = NoAccel }
+
+abbrev pub vector_exchange : Exchange
+vector_exchange = example_exchange 0 0 0 1 0 Fresh None (Some 0)
+
 -- two participants under a serial-explicit scheme, with one vector that goes from the first to the second
 abbrev pub two_participants : PlanParts
 two_participants =
     record {
       window = 10;
       end_time = 25;
-      parts =
-          record {
-            name = 65 ∷ [];
-            provides = 0 ∷ [];
-            receives = [];
-            writes = entry 0 0 ∷ [];
-            reads = [];
-            maps = [];
-            watches = record { name = 116 ∷ 105 ∷ 112 ∷ []; mesh = 0; at = pos 0 ∷ pos 0 ∷ [] } ∷ [];
-            group = None;
-          }
-          ∷ record {
-            name = 66 ∷ [];
-            provides = 1 ∷ [];
-            receives = 0 ∷ [];
-            writes = [];
-            reads = entry 0 1 ∷ [];
-            maps = read_from 0 1 ∷ [];
-            watches = [];
-            group = None;
-          }
-          ∷ [];
+      parts = writer ∷ reader ∷ [];
       meshes = example_mesh 0 2 (0 ∷ []) ∷ example_mesh 1 2 (0 ∷ []) ∷ [];
       data_list = example_data 0 true 1 ∷ [];
-      schemes = record { kind = SerialExplicit; members = 0 ∷ 1 ∷ []; min = 1; max = 1; measures = []; accel = NoAccel } ∷ [];
-      exchanges = example_exchange 0 0 0 1 0 Fresh None (Some 0) ∷ [];
+      schemes = serial_scheme ∷ [];
+      exchanges = vector_exchange ∷ [];
       nodes = Single 0 ∷ Single 1 ∷ [];
     }

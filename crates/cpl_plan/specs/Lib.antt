@@ -1,3 +1,4 @@
+pub mod BrokenPlans
 pub mod ExamplePlan
 pub mod ExchangeKinds
 pub mod Looks

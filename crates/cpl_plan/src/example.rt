@@ -1,5 +1,6 @@
 ghost use Rattle.std.specs.Prelude.{◌≡◌, [], ◌∷◌};
-ghost use Rattle.cpl_plan.specs.ValidPlan.{IsValidPlan};
+ghost use Rattle.cpl_plan.specs.ValidPlan.{IsValidPlan, HasSizes, HasMeshes, HasParticipants, HasSchemes, HasExchanges};
+ghost use Rattle.cpl_plan.specs.BrokenPlans.{one_name_for_two, two_providers, received_by_its_provider, mapped_from_elsewhere, fed_twice, never_fed, unmapped, unwritten, lagging_second, scheme_of_one, scheme_with_itself, measured_explicit, unmeasured_implicit, met_twice};
 ghost use Rattle.cpl_plan.specs.Needs.{needs};
 ghost use Rattle.cpl_plan.specs.ExamplePlan.{example_plan, two_participants, completed, posted};
 
@@ -27,4 +28,19 @@ pub fn worked_needs()
     ensures multi_third { needs example_plan 6 2 3 ≡ completed 4 1 ∷ completed 5 1 ∷ [] }
     // The first of 0 in a serial-explicit scheme.
     ensures serial_first { needs example_plan 7 2 3 ≡ completed 0 1 ∷ [] }
+{}
+
+/// Plans that differ from a valid one in one place are not valid.
+pub fn broken_plans_are_not_valid()
+    ensures names { ¬ HasSizes one_name_for_two }
+    ensures providers { ¬ HasMeshes two_providers }
+    ensures receivers { ¬ HasParticipants received_by_its_provider }
+    ensures mappings { ¬ HasParticipants mapped_from_elsewhere }
+    ensures feeding { (¬ HasParticipants fed_twice) × (¬ HasParticipants never_fed) }
+    ensures mapped { ¬ HasExchanges unmapped }
+    ensures written { ¬ HasExchanges unwritten }
+    ensures kinds { ¬ HasExchanges lagging_second }
+    ensures members { (¬ HasSchemes scheme_of_one) × (¬ HasSchemes scheme_with_itself) }
+    ensures measures { (¬ HasSchemes measured_explicit) × (¬ HasSchemes unmeasured_implicit) }
+    ensures meetings { ¬ HasSchemes met_twice }
 {}
