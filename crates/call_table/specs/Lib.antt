@@ -1,0 +1,2 @@
+pub mod CallMatrix
+pub mod Tables
