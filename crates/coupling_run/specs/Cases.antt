@@ -1,16 +1,15 @@
 -- The solvers of the cases that are accepted: A gives what it reads and `add`, B half of what it reads. The project's
 -- own.
-use Rattle.std.specs.Prelude.{List, [], ◌∷◌, ℤ, pos}
+use Rattle.std.specs.Prelude.{Option, None, List, [], ◌∷◌, ℤ, pos}
+use Rattle.line_solvers.specs.declared.case.ReadWhen.TheVariants.{End}
 use Rattle.line_solvers.specs.LineMeaning.{LineSpec, of_rows}
 
 -- one component, which is `add` and the input times a factor, both in units
 abbrev pub one_row : ℤ → ℤ → LineSpec
-one_row add factor = of_rows (record {
-  step = 10;
-  rows = record { add = add; states = []; reads = record { index = pos 0; number = factor } ∷ [] } ∷ [];
-  reads = 1;
-  writes = 1;
-})
+one_row add factor = record {
+  common = record { step = 10; read = End; forbid = None; out = 0 ∷ []; reads = 1; size = 1 };
+  rule = of_rows (record { add = add; states = []; reads = record { index = pos 0; number = factor } ∷ [] } ∷ []);
+}
 
 abbrev pub first_spec : ℤ → LineSpec
 first_spec add = one_row add (pos 1000000)

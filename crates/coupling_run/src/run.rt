@@ -1,6 +1,7 @@
 ghost use Rattle.std.specs.Prelude.{◌≡◌, ◌≤◌, ◌^◌, IfOk};
 ghost use Rattle.fixed_num.specs.Numbers.{IsValue, IsFactor};
-ghost use Rattle.line_solvers.specs.CaseMeaning.{IsSoundCase, spec_of_case, state_of_case};
+ghost use Rattle.line_solvers.specs.CaseMeaning.{spec_of_case, state_of_case};
+ghost use Rattle.line_solvers.specs.CaseSound.{IsSoundCase};
 ghost use Rattle.line_solvers.specs.LineSolver.{spec_of, state_of};
 ghost use Rattle.coupling_run.specs.Answer.{outcome_of, IsServed};
 ghost use Rattle.coupling_run.specs.Cases.{one_row, opening_state};
@@ -13,7 +14,7 @@ use crate::report::{fault_line, report};
 use crate::status::Status;
 use crate::turn::WINDOW;
 use fixed_num::{Items, Memory};
-use line_solvers::{CaseParts, LineSolver, Pair, RowParts, SolverKind};
+use line_solvers::{CaseParts, LineSolver, Pair, ReadWhen, RowParts, SolverKind};
 use std::alloc::Global;
 
 /// A reads its input as it is.
@@ -100,8 +101,19 @@ fn one_row_case(alloc: Global, add: i64, factor: i64) -> Result<CaseParts, Memor
     Ok(CaseParts {
         solver: SolverKind::Rows,
         step: i64::from(WINDOW),
+        read: ReadWhen::End,
         state: Some(Items::from_vec(state)),
+        fill: None,
+        count: None,
+        out: None,
+        forbid: None,
         row: Some(Items::from_vec(rows)),
+        alpha: 0,
+        beta: 0,
+        stiff: 0,
+        damp: 0,
+        gain: 0,
+        rate: 0,
         reads: 1,
         writes: 1,
     })

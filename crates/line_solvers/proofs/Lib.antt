@@ -1,2 +1,9 @@
-pub mod WeightedSums
 pub mod Checks
+pub mod Halves
+pub mod Moves
+pub mod RestingSolvers
+pub mod RodTotals
+pub mod Signed
+pub mod Sums
+pub mod Updates
+pub mod WeightedSums

@@ -10,7 +10,7 @@ use Rattle.fixed_num.specs.Numbers.{IsValue, IsRoundedQuotient}
 use Rattle.line_solvers.specs.declared.case.Pair.{Pair}
 use Rattle.line_solvers.specs.declared.case.RowParts.{RowParts}
 use Rattle.line_solvers.specs.RowsStep.{weighted, weighted_sum}
-use Rattle.line_solvers.specs.RowsSound.{IsPairOf, IsSoundRow}
+use Rattle.line_solvers.specs.Sound.{IsPairOf, IsSoundRow}
 
 unsigned_abs-add : (a b : ℤ) → unsigned_abs (a +ℤ b) ≤ unsigned_abs a + unsigned_abs b
 unsigned_abs-add a b = omega (arith, ints)

@@ -1,43 +1,54 @@
--- The solver that a case file describes, and which descriptions are sound. The project's own.
-use Rattle.std.specs.Prelude.{◌≡◌, ◌≤◌, ◌^◌, List, [], ℤ, pos, ◌≤ℤ◌, unsigned_abs, length, IsSome, unwrap_or}
-use Rattle.std.specs.List.{All}
-use Rattle.fixed_num.specs.Numbers.{IsValue}
+-- The solver that a case file describes. The project's own.
+use Rattle.std.specs.Prelude.{ℕ, List, [], ℤ, pos, unsigned_abs, length, map, replicate, unwrap_or}
+use Rattle.std.specs.List.{range_with_len}
+use Rattle.std.specs.Option.{option_map, option_map_or}
 use Rattle.line_solvers.specs.declared.case.CaseParts.{CaseParts}
 use Rattle.line_solvers.specs.declared.case.RowParts.{RowParts}
+use Rattle.line_solvers.specs.declared.case.RodNumbers.{RodNumbers}
+use Rattle.line_solvers.specs.declared.case.SpringNumbers.{SpringNumbers}
 use Rattle.line_solvers.specs.declared.case.SolverKind.{SolverKind}
-use Rattle.line_solvers.specs.declared.case.SolverKind.TheVariants.{Rows}
-use Rattle.line_solvers.specs.RowsStep.{RowsSpec}
-use Rattle.line_solvers.specs.RowsSound.{IsSoundRow}
-use Rattle.line_solvers.specs.LineMeaning.{LineSpec, of_rows}
+use Rattle.line_solvers.specs.declared.case.SolverKind.TheVariants.{Rows, Rod, Spring}
+use Rattle.line_solvers.specs.Common.{Common}
+use Rattle.line_solvers.specs.LineMeaning.{Rule, of_rows, of_rod, of_spring, LineSpec}
 
--- the first state
+-- so many components that are all the same
+abbrev pub filled_state : CaseParts → List ℤ
+filled_state parts = replicate (unsigned_abs (unwrap_or parts.count (pos 0))) (unwrap_or parts.fill (pos 0))
+
+-- the first state: as it is listed, or filled
 abbrev pub state_of_case : CaseParts → List ℤ
-state_of_case parts = unwrap_or parts.state []
+state_of_case parts = unwrap_or parts.state (filled_state parts)
+
+-- the indexes of the components that are written: as they are listed, or the first ones
+abbrev pub out_of_case : CaseParts → List ℕ
+out_of_case parts = option_map_or (map unsigned_abs) parts.out (range_with_len 0 parts.writes)
 
 -- the rows, one for each component
 abbrev pub rows_of_case : CaseParts → List RowParts
 rows_of_case parts = unwrap_or parts.row []
 
-abbrev pub rows_spec_of_case : CaseParts → RowsSpec
-rows_spec_of_case parts =
-    record { step = unsigned_abs parts.step; rows = rows_of_case parts; reads = parts.reads; writes = parts.writes }
+abbrev pub rod_of_case : CaseParts → RodNumbers
+rod_of_case parts = record { alpha = parts.alpha; beta = parts.beta }
 
-abbrev pub spec_of_kind : SolverKind → CaseParts → LineSpec
-spec_of_kind Rows parts = of_rows (rows_spec_of_case parts)
+abbrev pub spring_of_case : CaseParts → SpringNumbers
+spring_of_case parts = record { stiff = parts.stiff; damp = parts.damp; gain = parts.gain; rate = parts.rate }
+
+abbrev pub rule_of_kind : SolverKind → CaseParts → Rule
+rule_of_kind Rows parts = of_rows (rows_of_case parts)
+rule_of_kind Rod parts = of_rod (rod_of_case parts)
+rule_of_kind Spring parts = of_spring (spring_of_case parts)
+
+abbrev pub common_of_case : CaseParts → Common
+common_of_case parts =
+    record {
+      step = unsigned_abs parts.step;
+      read = parts.read;
+      forbid = option_map unsigned_abs parts.forbid;
+      out = out_of_case parts;
+      reads = parts.reads;
+      size = length (state_of_case parts);
+    }
 
 -- what never changes of the solver
 abbrev pub spec_of_case : CaseParts → LineSpec
-spec_of_case parts = spec_of_kind parts.solver parts
-
--- a description that a solver can be made of
-pub record IsSoundCase (parts : CaseParts) : Type 0 where
-  pub has_state : IsSome parts.state
-  pub has_rows : IsSome parts.row
-  pub a_tick : pos 1 ≤ℤ parts.step
-  pub step_limit : parts.step ≤ℤ pos (10 ^ 9)
-  pub not_empty : 1 ≤ length (state_of_case parts)
-  pub not_long : length (state_of_case parts) ≤ 60000
-  pub values : All IsValue (state_of_case parts)
-  pub a_row_each : length (rows_of_case parts) ≡ length (state_of_case parts)
-  pub rows : All (IsSoundRow (length (state_of_case parts)) parts.reads) (rows_of_case parts)
-  pub writes : parts.writes ≤ length (state_of_case parts)
+spec_of_case parts = record { common = common_of_case parts; rule = rule_of_kind parts.solver parts }

@@ -1,5 +1,13 @@
+pub mod Components
+pub mod Moved
 pub mod RowsStep
-pub mod RowsSound
+pub mod RodStep
+pub mod SpringStep
+pub mod Checked
+pub mod Common
 pub mod LineMeaning
 pub mod LineSolver
+pub mod Sound
 pub mod CaseMeaning
+pub mod CaseSound
+pub mod Laws

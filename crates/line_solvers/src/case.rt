@@ -8,6 +8,18 @@ use std::alloc::Global;
 pub enum SolverKind {
     /// Each new component is a rounded sum of weighted components and inputs.
     Rows,
+    /// Each component is drawn to its two neighbours, and to what it reads.
+    Rod,
+    /// Positions and velocities: each velocity is drawn by the position's neighbours, damped, and
+    /// pushed by what it reads.
+    Spring,
+}
+
+/// When a step reads its inputs.
+#[derive(Clone, Copy, Debug, PartialEq, Eq)]
+pub enum ReadWhen {
+    End,
+    Start,
 }
 
 /// One term of a row: which component or input, from 0, and its coefficient in units.
@@ -18,7 +30,7 @@ pub struct Pair {
 }
 
 /// How a component comes from the state before the step and from the inputs: `add`, in units, and
-/// the weighted sums over `states` and `reads`.
+/// the weighted sums over `states` and `reads`, each of at most 64 pairs.
 #[derive(Debug, Drop)]
 pub struct RowParts {
     pub add: i64,
@@ -26,19 +38,58 @@ pub struct RowParts {
     pub reads: Items<Pair>,
 }
 
-/// What a case file says of a solver.
+/// The coefficients of a rod, in units a tick: of the neighbours, and of the inputs.
+#[derive(Clone, Copy, Debug, PartialEq, Eq)]
+pub struct RodNumbers {
+    pub alpha: i64,
+    pub beta: i64,
+}
+
+/// The coefficients of a spring, in units a tick: of the neighbours, the velocity and the inputs in
+/// a new velocity, and of the new velocity in a new position.
+#[derive(Clone, Copy, Debug, PartialEq, Eq)]
+pub struct SpringNumbers {
+    pub stiff: i64,
+    pub damp: i64,
+    pub gain: i64,
+    pub rate: i64,
+}
+
+/// What a case file says of a solver. A key that is for another kind of solver plays no part.
 #[derive(Debug, Drop)]
 pub struct CaseParts {
     pub solver: SolverKind,
-    /// The longest step, in ticks.
+    /// The longest step, in ticks: 1 to 10^9.
     pub step: i64,
-    /// The first state, in units.
+    pub read: ReadWhen,
+    /// The first state, in units: 1 to 60,000 components.
     pub state: Option<Items<i64>>,
+    /// In place of `state`: what each component is, in units,
+    pub fill: Option<i64>,
+    /// and how many components there are, 1 to 60,000.
+    pub count: Option<i64>,
+    /// The indexes of the components that are written, in this order; the first ones where it is
+    /// absent.
+    pub out: Option<Items<i64>>,
+    /// The least absolute value that faults a step, in units, over 0.
+    pub forbid: Option<i64>,
     /// A row for each component of the state.
     pub row: Option<Items<RowParts>>,
+    /// How fast a rod's component is drawn to its neighbours, in units a tick.
+    pub alpha: i64,
+    /// How fast a rod's component is drawn to what it reads, in units a tick.
+    pub beta: i64,
+    /// How fast a spring's velocity is drawn by the neighbours, in units a tick.
+    pub stiff: i64,
+    /// How fast a spring's velocity goes down, in units a tick.
+    pub damp: i64,
+    /// How fast a spring's velocity follows what it reads, in units a tick.
+    pub gain: i64,
+    /// How fast a spring's position follows its velocity, in units a tick.
+    pub rate: i64,
     /// How many values a step reads.
     pub reads: u32,
-    /// How many values a step writes: the first components of the state.
+    /// How many values a step writes.
     pub writes: u32,
 }
 
@@ -55,8 +106,8 @@ impl RowParts {
     }
 }
 
-/// The items of a list, or none where there is no list.
-pub(crate) fn items_of<T>(list: &Option<Items<T>>) -> &[T]
+/// The rows, or none where there is no list.
+pub(crate) fn rows_of(list: &Option<Items<RowParts>>) -> &[RowParts]
     ensures { result.now ≡ unwrap_or list.now [] }
 {
     match list {

@@ -1,6 +1,9 @@
 use crate::case::{CaseParts, SolverKind};
 use crate::checkpoint::LineCheckpoint;
+use crate::line::Line;
+use crate::rod::Rod;
 use crate::rows::Rows;
+use crate::spring::Spring;
 use fixed_num::Memory;
 use solver_trait::{Solver, StepErr};
 use std::alloc::Global;
@@ -9,12 +12,15 @@ use std::alloc::Global;
 #[derive(Drop)]
 pub enum LineSolver {
     Rows(Rows),
+    Rod(Rod),
+    Spring(Spring),
 }
 
 impl LineSolver {
     ghost use Rattle.std.specs.Prelude.{◌≡◌, All, IfOk};
     ghost use Rattle.fixed_num.specs.Numbers.{IsValue};
-    ghost use Rattle.line_solvers.specs.CaseMeaning.{IsSoundCase, spec_of_case, state_of_case};
+    ghost use Rattle.line_solvers.specs.CaseMeaning.{spec_of_case, state_of_case};
+    ghost use Rattle.line_solvers.specs.CaseSound.{IsSoundCase};
     ghost use Rattle.line_solvers.specs.LineSolver.{spec_of, state_of};
 
     /// The solver that the case describes, in the case's state.
@@ -25,6 +31,8 @@ impl LineSolver {
     {
         match case.solver {
             SolverKind::Rows => Ok(LineSolver::Rows(Rows::from_case(alloc, case)?)),
+            SolverKind::Rod => Ok(LineSolver::Rod(Rod::from_case(alloc, case)?)),
+            SolverKind::Spring => Ok(LineSolver::Spring(Spring::from_case(alloc, case)?)),
         }
     }
 
@@ -33,8 +41,18 @@ impl LineSolver {
         ensures components { result.now ≡ state_of self.now }
         ensures values { All IsValue result.now }
     {
+        self.line().state()
+    }
+
+    /// What it has in common with the solvers of other kinds.
+    fn line(&self) -> &Line
+        ensures common { result.now.common ≡ (spec_of self.now).common }
+        ensures state { result.now.state ≡ state_of self.now }
+    {
         match self {
-            LineSolver::Rows(rows) => rows.state(),
+            LineSolver::Rows(rows) => rows.line(),
+            LineSolver::Rod(rod) => rod.line(),
+            LineSolver::Spring(spring) => spring.line(),
         }
     }
 }
@@ -61,56 +79,46 @@ impl Solver for LineSolver {
     ghost held = { λ components. components };
 
     fn read_len(&self) -> usize {
-        match self {
-            LineSolver::Rows(rows) => rows.read_len(),
-        }
+        self.line().read_len()
     }
 
     fn write_len(&self) -> usize {
-        match self {
-            LineSolver::Rows(rows) => rows.write_len(),
-        }
+        self.line().write_len()
     }
 
     fn pick(&self, most: u64) -> u64 {
-        match self {
-            LineSolver::Rows(rows) => rows.pick(most),
-        }
+        self.line().pick(most)
     }
 
     fn read_at_end(&self) -> bool {
-        match self {
-            LineSolver::Rows(_) => true,
-        }
+        self.line().read_at_end()
     }
 
     fn first(&self, writes: &mut [i64]) {
-        match self {
-            LineSolver::Rows(rows) => rows.write(writes),
-        }
+        self.line().write(writes)
     }
 
-    fn step(&mut self, _dt: u64, reads: &[i64], writes: &mut [i64]) -> Result<(), StepErr> {
+    fn step(&mut self, dt: u64, reads: &[i64], writes: &mut [i64]) -> Result<(), StepErr> {
         match self {
-            LineSolver::Rows(rows) => rows.step(reads, writes),
+            LineSolver::Rows(rows) => rows.step(dt, reads, writes),
+            LineSolver::Rod(rod) => rod.step(dt, reads, writes),
+            LineSolver::Spring(spring) => spring.step(dt, reads, writes),
         }
     }
 
     fn checkpoint(&self, alloc: Global) -> Result<LineCheckpoint, Memory> {
-        match self {
-            LineSolver::Rows(rows) => LineCheckpoint::of(alloc, rows.state()),
-        }
+        LineCheckpoint::of(alloc, self.line().state())
     }
 
     fn save(&self, into: &mut LineCheckpoint) {
-        match self {
-            LineSolver::Rows(rows) => into.set(rows.state()),
-        }
+        into.set(self.line().state())
     }
 
     fn restore(&mut self, from: &LineCheckpoint) {
         match self {
             LineSolver::Rows(rows) => rows.set_state(from.components()),
+            LineSolver::Rod(rod) => rod.set_state(from.components()),
+            LineSolver::Spring(spring) => spring.set_state(from.components()),
         }
     }
 }

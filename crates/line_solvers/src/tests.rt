@@ -1,13 +1,108 @@
-ghost use Rattle.std.specs.Prelude.{◌≡◌, ◌≤◌, ◌+◌, length, vec_len, All, IfOk, OnOk, IsTrue};
+ghost use Rattle.std.specs.Prelude.{◌≡◌, ◌≤◌, ◌<◌, ◌^◌, Some, None, length, vec_len, unsigned_abs, map, pos, ◌≤ℤ◌, All, IfOk, OnOk, IsTrue};
 ghost use Rattle.fixed_num.specs.Numbers.{IsValue, IsFactor};
-ghost use Rattle.line_solvers.specs.RowsSound.{IsPairOf, IsSoundRow};
+ghost use Rattle.line_solvers.specs.Sound.{IsPairOf, IsSoundRow, none_or_each};
 ghost use Rattle.line_solvers.specs.LineMeaning.{line_behaviour};
 ghost use Rattle.line_solvers.specs.LineSolver.{spec_of};
+ghost use Rattle.line_solvers.specs.declared.case.ReadWhen.TheVariants.{Start};
 
 use super::*;
 use fixed_num::{Items, Memory};
 use solver_trait::{Solver, StepErr};
 use std::alloc::Global;
+
+/// A case of this kind and state without any other key, which reads at the start of a step.
+fn case_of(solver: SolverKind, state: Vec<i64>, reads: u32, writes: u32) -> CaseParts
+    ensures { result ≡ record {
+      solver = solver;
+      step = pos 10;
+      read = Start;
+      state = Some state.items;
+      fill = None;
+      count = None;
+      out = None;
+      forbid = None;
+      row = None;
+      alpha = pos 0;
+      beta = pos 0;
+      stiff = pos 0;
+      damp = pos 0;
+      gain = pos 0;
+      rate = pos 0;
+      reads = reads;
+      writes = writes;
+    } }
+{
+    CaseParts {
+        solver,
+        step: 10,
+        read: ReadWhen::Start,
+        state: Some(Items::from_vec(state)),
+        fill: None,
+        count: None,
+        out: None,
+        forbid: None,
+        row: None,
+        alpha: 0,
+        beta: 0,
+        stiff: 0,
+        damp: 0,
+        gain: 0,
+        rate: 0,
+        reads,
+        writes,
+    }
+}
+
+/// A rod without reads, with alpha 0.5, which writes these components.
+fn free_rod(alloc: Global, state: &[i64], out: &[i64]) -> Result<LineSolver, Memory>
+    requires some { 1 ≤ length state.now }
+    requires few { length state.now ≤ 60000 }
+    requires values { All IsValue state.now }
+    requires writes { length out.now < 2 ^ 32 }
+    requires listed { All (λ place. pos 0 ≤ℤ place) out.now }
+    requires places { All (λ place. place < length state.now) (map unsigned_abs out.now) }
+    ensures reads { IfOk result (λ made. (line_behaviour (spec_of made)).read_len ≡ 0) }
+    ensures writes { IfOk result (λ made. (line_behaviour (spec_of made)).write_len ≡ length out.now) }
+{
+    let components = Vec::from_slice(alloc, state)?;
+    let mut case = case_of(SolverKind::Rod, components, 0, out.len() as u32);
+    case.alpha = 500_000;
+    case.out = Some(Items::from_vec(Vec::from_slice(alloc, out)?));
+    LineSolver::from_case(alloc, &case)
+}
+
+/// A rod of two zeros that follows what it reads at the end of a step, below the bound.
+fn following_rod(alloc: Global, forbid: i64) -> Result<LineSolver, Memory>
+    requires { pos 1 ≤ℤ forbid }
+    ensures reads { IfOk result (λ made. (line_behaviour (spec_of made)).read_len ≡ 2) }
+    ensures writes { IfOk result (λ made. (line_behaviour (spec_of made)).write_len ≡ 2) }
+{
+    let mut case = case_of(SolverKind::Rod, Vec::new(alloc), 2, 2);
+    case.state = None;
+    case.fill = Some(0);
+    case.count = Some(2);
+    case.read = ReadWhen::End;
+    case.forbid = Some(forbid);
+    case.beta = 1_000_000;
+    LineSolver::from_case(alloc, &case)
+}
+
+/// A spring of two positions and their velocities, which writes both positions.
+fn spring_of(alloc: Global, state: &[i64], reads: u32) -> Result<LineSolver, Memory>
+    requires four { length state.now ≡ 4 }
+    requires values { All IsValue state.now }
+    requires reads { IsTrue (none_or_each reads 2) }
+    ensures reads { IfOk result (λ made. (line_behaviour (spec_of made)).read_len ≡ reads) }
+    ensures writes { IfOk result (λ made. (line_behaviour (spec_of made)).write_len ≡ 2) }
+{
+    let components = Vec::from_slice(alloc, state)?;
+    let mut case = case_of(SolverKind::Spring, components, reads, 2);
+    case.stiff = 1_000_000;
+    case.damp = 500_000;
+    case.gain = 1_000_000;
+    case.rate = 500_000;
+    LineSolver::from_case(alloc, &case)
+}
 
 /// The pair, or no pair where its number is 0.
 fn pairs_of(alloc: Global, pair: Pair, _count: usize) -> Result<Items<Pair>, Memory>
@@ -22,53 +117,13 @@ fn pairs_of(alloc: Global, pair: Pair, _count: usize) -> Result<Items<Pair>, Mem
     Ok(Items::from_vec(pairs))
 }
 
-/// A row over `components` components and one input.
-fn row_of(
-    alloc: Global,
-    add: i64,
-    state: Pair,
-    read: Pair,
-    components: usize,
-) -> Result<RowParts, Memory>
-    requires add { IsValue add }
-    requires state { IsPairOf components state }
-    requires read { IsPairOf 1 read }
-    ensures { IfOk result (IsSoundRow components 1) }
-{
-    Ok(RowParts {
-        add,
-        states: pairs_of(alloc, state, components)?,
-        reads: pairs_of(alloc, read, 1)?,
-    })
-}
-
-/// A solver of these rows, which starts at zeros and writes its first component.
-fn solver_of(alloc: Global, rows: Vec<RowParts>) -> Result<LineSolver, Memory>
-    requires least { 1 ≤ vec_len rows }
-    requires most { vec_len rows ≤ 60000 }
-    requires rows { All (IsSoundRow (vec_len rows) 1) rows.items }
-    ensures read_len { IfOk result (λ made. (line_behaviour (spec_of made)).read_len ≡ 1) }
-    ensures write_len { IfOk result (λ made. (line_behaviour (spec_of made)).write_len ≡ 1) }
-{
-    let state = vec![in alloc; 0; rows.len()]?;
-    let case = CaseParts {
-        solver: SolverKind::Rows,
-        step: 10,
-        state: Some(Items::from_vec(state)),
-        row: Some(Items::from_vec(rows)),
-        reads: 1,
-        writes: 1,
-    };
-    LineSolver::from_case(alloc, &case)
-}
-
-/// A solver of one row, `add + state·s + read·u`.
+/// One row, `add + state·s + read·u`, in units.
 fn single(alloc: Global, add: i64, state: i64, read: i64) -> Result<LineSolver, Memory>
     requires add { IsValue add }
     requires state { IsFactor state }
     requires read { IsFactor read }
-    ensures read_len { IfOk result (λ made. (line_behaviour (spec_of made)).read_len ≡ 1) }
-    ensures write_len { IfOk result (λ made. (line_behaviour (spec_of made)).write_len ≡ 1) }
+    ensures reads { IfOk result (λ made. (line_behaviour (spec_of made)).read_len ≡ 1) }
+    ensures writes { IfOk result (λ made. (line_behaviour (spec_of made)).write_len ≡ 1) }
 {
     let state = Pair {
         index: 0,
@@ -78,93 +133,76 @@ fn single(alloc: Global, add: i64, state: i64, read: i64) -> Result<LineSolver, 
         index: 0,
         number: read,
     };
-    let mut rows = Vec::new(alloc);
-    rows.push(row_of(alloc, add, state, read, 1)?)?;
-    solver_of(alloc, rows)
-}
-
-/// A solver of two rows: the second component and one, and the first component.
-fn crossing(alloc: Global) -> Result<LineSolver, Memory>
-    ensures read_len { IfOk result (λ made. (line_behaviour (spec_of made)).read_len ≡ 1) }
-    ensures write_len { IfOk result (λ made. (line_behaviour (spec_of made)).write_len ≡ 1) }
-{
-    let second = Pair {
-        index: 1,
-        number: 1_000_000,
-    };
-    let first = Pair {
-        index: 0,
-        number: 1_000_000,
-    };
-    let nothing = Pair {
-        index: 0,
-        number: 0,
+    let row = RowParts {
+        add,
+        states: pairs_of(alloc, state, 1)?,
+        reads: pairs_of(alloc, read, 1)?,
     };
     let mut rows = Vec::new(alloc);
-    rows.push(row_of(alloc, 1_000_000, second, nothing, 2)?)?;
-    rows.push(row_of(alloc, 0, first, nothing, 2)?)?;
-    solver_of(alloc, rows)
-}
-
-/// Steps one solver with what the other wrote, and gives the first value that it writes itself.
-fn turn<S: Solver>(solver: &mut S, reads: &[i64], writes: &mut [i64]) -> Result<i64, StepErr>
-    requires read_len { length reads.now ≡ (S.behaviour (S.spec solver.old)).read_len }
-    requires write_len { length writes.old ≡ (S.behaviour (S.spec solver.old)).write_len }
-    requires one { 1 ≤ length writes.old }
-    requires inputs { All IsValue reads.now }
-    ensures same_spec { S.spec solver.new ≡ S.spec solver.old }
-    ensures values { OnOk result (All IsValue writes.new) }
-{
-    let ticks = solver.pick(25);
-    solver.step(ticks, reads, writes)?;
-    Ok(writes[0])
+    rows.push(row)?;
+    let mut case = case_of(SolverKind::Rows, Vec::from_slice(alloc, &[0])?, 1, 1);
+    case.row = Some(Items::from_vec(rows));
+    LineSolver::from_case(alloc, &case)
 }
 
 #[test]
-fn two_solvers_in_turn_give_the_worked_values(rt: HostRuntime) -> Result<(), StepErr> {
-    let mut plus_one = single(rt.alloc(), 1_000_000, 0, 1_000_000)?;
-    let mut half = single(rt.alloc(), 0, 0, 500_000)?;
-    let mut u = [9];
-    let mut v = [9];
-    half.first(&mut v);
-    let u1 = turn(&mut plus_one, &v, &mut u)?;
-    let v1 = turn(&mut half, &u, &mut v)?;
-    let u2 = turn(&mut plus_one, &v, &mut u)?;
-    let v2 = turn(&mut half, &u, &mut v)?;
-    let u3 = turn(&mut plus_one, &v, &mut u)?;
-    let v3 = turn(&mut half, &u, &mut v)?;
-    assert!(rt; [u1, u2, u3] == [1_000_000, 1_500_000, 1_750_000]);
-    assert!(rt; [v1, v2, v3] == [500_000, 750_000, 875_000]);
+fn a_rod_without_reads_smooths_and_rounds_to_even(rt: HostRuntime) -> Result<(), StepErr> {
+    let mut rod = free_rod(rt.alloc(), &[0, 3, 0], &[1, 0, 1])?;
+    let mut writes = [9; 3];
+    rod.first(&mut writes);
+    assert!(rt; writes == [3, 0, 3]);
+    rod.step(1, &[], &mut writes)?;
+    assert!(rt; writes == [0, 2, 0]);
+    rod.step(1, &[], &mut writes)?;
+    assert!(rt; rod.state() == &[1, 2, 1][..]);
+    rod.step(3, &[], &mut writes)?;
+    assert!(rt; rod.state() == &[3, -1, 3][..]);
     Ok(())
 }
 
 #[test]
-fn a_component_out_of_range_faults_and_changes_nothing(rt: HostRuntime) -> Result<(), StepErr> {
-    let mut climbing = single(rt.alloc(), 10_000_000_000_000, 1_000_000, 1_000_000)?;
-    let mut zero = [9];
-    let mut writes = [9];
-    climbing.first(&mut zero);
-    climbing.step(1, &zero, &mut writes)?;
-    let again = climbing.step(1, &zero, &mut writes);
-    assert!(rt; again == Err(StepErr::Fault(1)));
-    assert!(rt; writes[0] == 10_000_000_000_000);
-    assert!(rt; climbing.pick(25) == 10 && climbing.pick(4) == 4);
+fn faults_come_in_order_and_change_nothing(rt: HostRuntime) -> Result<(), StepErr> {
+    let mut rod = following_rod(rt.alloc(), 100)?;
+    let mut writes = [9; 2];
+    let mut saved = rod.checkpoint(rt.alloc())?;
+    rod.save(&mut saved);
+    rod.step(1, &[-99, 99], &mut writes)?;
+    let at_bound = rod.step(1, &[-100, 0], &mut writes);
+    let huge = rod.step(u64::MAX, &[-100, 98], &mut writes);
+    let past_128_bits = rod.step(u64::MAX, &[10_000_000_000_000, 99], &mut writes);
+    assert!(rt; at_bound == Err(StepErr::Fault(2)));
+    assert!(rt; huge == Err(StepErr::Fault(1)) && past_128_bits == Err(StepErr::Fault(1)));
+    assert!(rt; writes == [-99, 99] && rod.state() == &[-99, 99][..]);
+    rod.restore(&saved);
+    assert!(rt; rod.state() == &[0, 0][..] && rod.read_at_end());
+    assert!(rt; rod.pick(25) == 10 && rod.pick(4) == 4);
     Ok(())
 }
 
 #[test]
-fn crossing_rows_read_the_state_before_the_step(rt: HostRuntime) -> Result<(), StepErr> {
-    let mut crossing = crossing(rt.alloc())?;
-    let mut zero = [9];
+fn a_spring_moves_by_its_new_velocities(rt: HostRuntime) -> Result<(), StepErr> {
+    let mut free = spring_of(rt.alloc(), &[4, 0, 2, 0], 0)?;
+    let mut writes = [9; 2];
+    free.step(1, &[], &mut writes)?;
+    assert!(rt; free.state() == &[0, 2, -7, 4][..]);
+    free.step(1, &[], &mut writes)?;
+    assert!(rt; free.state() == &[0, 1, -1, -2][..] && writes == [0, 1]);
+
+    let mut pushed = spring_of(rt.alloc(), &[0, 0, 0, 0], 2)?;
+    pushed.step(1, &[3, 0], &mut writes)?;
+    assert!(rt; pushed.state() == &[2, 0, 3, 0][..] && !pushed.read_at_end());
+    Ok(())
+}
+
+#[test]
+fn rows_add_weigh_and_fault(rt: HostRuntime) -> Result<(), StepErr> {
+    let mut climbing = single(rt.alloc(), 5_000_000_000_000, 500_000, 500_000)?;
     let mut writes = [9];
-    crossing.first(&mut zero);
-    let mut saved = crossing.checkpoint(rt.alloc())?;
-    crossing.step(1, &zero, &mut writes)?;
-    crossing.save(&mut saved);
-    crossing.step(1, &zero, &mut writes)?;
-    crossing.step(1, &zero, &mut writes)?;
-    assert!(rt; crossing.state() == &[2_000_000, 1_000_000][..]);
-    crossing.restore(&saved);
-    assert!(rt; crossing.state() == &[1_000_000, 0][..]);
+    climbing.step(1, &[3], &mut writes)?;
+    assert!(rt; writes == [5_000_000_000_002]);
+    climbing.step(7, &[-2], &mut writes)?;
+    assert!(rt; writes == [7_500_000_000_000]);
+    let fault = climbing.step(1, &[10_000_000_000_000], &mut writes);
+    assert!(rt; fault == Err(StepErr::Fault(1)) && climbing.state() == &[7_500_000_000_000][..]);
     Ok(())
 }
