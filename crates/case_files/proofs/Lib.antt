@@ -1,0 +1,5 @@
+pub mod CaseValues
+pub mod CaseKinds
+pub mod SoundCases
+pub mod CasePlaces
+pub mod CaseFaults

@@ -1,0 +1,5 @@
+pub mod CaseOf
+pub mod SoundCase
+pub mod CaseAcceptance
+pub mod FirstCaseFault
+pub mod NoCaseFault

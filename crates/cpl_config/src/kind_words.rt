@@ -1,0 +1,45 @@
+/// What data have at each vertex: one component, or one for each dimension of the mesh.
+#[derive(Clone, Copy, Debug, PartialEq, Eq)]
+pub enum DataKind {
+    Scalar,
+    Vector,
+}
+
+/// Whether a mapping is for what its participant reads or for what it writes.
+#[derive(Clone, Copy, Debug, PartialEq, Eq)]
+pub enum Direction {
+    Read,
+    Write,
+}
+
+/// Whether a mapping copies values to the vertices of its target, or adds each value up at one.
+#[derive(Clone, Copy, Debug, PartialEq, Eq)]
+pub enum Constraint {
+    Consistent,
+    Conservative,
+}
+
+/// The kinds of coupling schemes.
+#[derive(Clone, Copy, Debug, PartialEq, Eq)]
+pub enum KindWord {
+    SerialExplicit,
+    ParallelExplicit,
+    SerialImplicit,
+    ParallelImplicit,
+    Multi,
+}
+
+/// What the change of an iteration is compared with.
+#[derive(Clone, Copy, Debug, PartialEq, Eq)]
+pub enum MeasureWord {
+    Absolute,
+    Relative,
+    ResidualRelative,
+}
+
+/// The methods of relaxation.
+#[derive(Clone, Copy, Debug, PartialEq, Eq)]
+pub enum AccelWord {
+    Constant,
+    Aitken,
+}

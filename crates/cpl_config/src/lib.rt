@@ -1,0 +1,25 @@
+//! The configuration of a coupling: a text in TOML, read whole and refused exactly.
+#![tactic(auto)]
+
+pub mod config;
+pub mod error;
+pub mod fields;
+pub mod kind_words;
+pub mod laws;
+mod part_tables;
+pub mod read;
+mod scheme_tables;
+pub mod tables_of;
+#[cfg(test)]
+mod tests;
+pub mod values;
+mod words_of;
+
+pub use config::{
+    AccelEntry, Config, DataEntry, DataTable, ExchangeEntry, MapEntry, MeasureEntry, MeshTable,
+    PartTable, ReceivesEntry, SchemeTable, WatchEntry,
+};
+pub use error::ConfigErr;
+pub use kind_words::{AccelWord, Constraint, DataKind, Direction, KindWord, MeasureWord};
+pub use laws::tree_without_fault_is_sound;
+pub use read::read_config;

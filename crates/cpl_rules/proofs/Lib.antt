@@ -1,0 +1,4 @@
+pub mod Walks
+pub mod KnownNames
+pub mod FirstPlaces
+pub mod RuleSteps

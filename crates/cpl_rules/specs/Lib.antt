@@ -1,0 +1,6 @@
+pub mod Seen
+pub mod SeenTables
+pub mod BrokenRules
+pub mod FirstBroken
+pub mod Refused
+pub mod KnownNames

@@ -1,0 +1,19 @@
+//! The rules on the tables of a configuration or a case file: which keys are there, what their
+//! values have to be, and which rule is the first broken one.
+//!
+//! A rule is tried over all tables of a file, in the order of their places, before the next rule.
+#![tactic(auto)]
+
+mod breaks;
+mod keys_judged;
+pub mod laws;
+mod names;
+pub mod refusal;
+pub mod rules;
+pub mod spots;
+#[cfg(test)]
+mod tests;
+
+pub use refusal::first_refusal;
+pub use rules::{Refusal, Rule};
+pub use spots::{Spot, value_at};

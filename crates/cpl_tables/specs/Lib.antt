@@ -1,0 +1,6 @@
+pub mod Words
+pub mod KeyRule
+pub mod Keys
+pub mod Places
+pub mod Values
+pub mod PlaceText
