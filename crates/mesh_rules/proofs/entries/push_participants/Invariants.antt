@@ -1,0 +1,10 @@
+use Rattle.std.proofs.Common.{◌≡◌, ◌++◌, map, take, drop}
+use Rattle.mesh_rules.specs.Entries.{entries_of_participant, each_after, participant_entries}
+use Rattle.mesh_rules.specs.Spots.{entry_of}
+use Rattle.mesh_rules.proofs.entries.push_participants.Given as goal
+
+-- what is there and the entries of the rest are those of the whole
+abbrev pub invariant-items : goal.invariant-items
+invariant-items l =
+    map entry_of l.to.items ++ each_after (λ n before table. entries_of_participant n table) (take l.index l.items) (drop l.index l.items)
+    ≡ map entry_of l.fn.to.items ++ participant_entries l.fn.config

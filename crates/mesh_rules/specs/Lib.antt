@@ -1,0 +1,5 @@
+pub mod Entries
+pub mod Spots
+pub mod Named
+pub mod MeshRules
+pub mod OneTable
