@@ -1,0 +1,4 @@
+pub mod RuleSteps
+pub mod Answered
+pub mod Counts
+pub mod Scans

@@ -1,0 +1,4 @@
+pub mod Members
+pub mod Circles
+pub mod SchemeRules
+pub mod ConfigRules
