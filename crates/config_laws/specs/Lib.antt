@@ -1,0 +1,9 @@
+pub mod Circling
+pub mod Placed
+pub mod FitMeshes
+pub mod FitSchemes
+pub mod ToldOnce
+pub mod FitConfig
+pub mod FitNumbers
+pub mod Numbered
+pub mod WorkedConfigs
