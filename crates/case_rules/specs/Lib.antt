@@ -1,0 +1,2 @@
+pub mod CaseRules
+pub mod SolverCase

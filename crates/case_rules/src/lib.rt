@@ -1,0 +1,16 @@
+//! The rules over the case files of an accepted configuration: exactly the first broken one, at its
+//! first case.
+#![tactic(auto)]
+
+pub mod case_check;
+pub mod case_meshes;
+pub mod cases;
+pub mod laws;
+pub mod rules;
+pub mod solvers;
+#[cfg(test)]
+mod tests;
+
+pub use case_check::check_cases;
+pub use laws::accepted_cases_describe_solvers;
+pub use rules::CaseRule;
