@@ -1,0 +1,4 @@
+pub mod Wholes
+pub mod InTurn
+pub mod Cuts
+pub mod Asks

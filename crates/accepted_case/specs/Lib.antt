@@ -1,0 +1,5 @@
+pub mod Acceptance
+pub mod Loaded
+pub mod Answers
+pub mod IsAcceptedCase
+pub mod MayLoad
