@@ -19,7 +19,10 @@ extern "C" {
 const USAGE_WORDS: usize = 18;
 const RESIDENT: usize = 4;
 
-/// The seconds and the memory of one run, which must end with the status 0.
+/// The status of a process that ended with 4, as `wait4` tells it: files were refused.
+const REFUSED: i32 = 4 << 8;
+
+/// The seconds and the memory of one run, which must end with the status 0, or with 4.
 fn run(program: &str, words: &[String]) -> Result<(f64, i64), Box<dyn Error>> {
     let start = Instant::now();
     let child = Command::new(program)
@@ -31,7 +34,7 @@ fn run(program: &str, words: &[String]) -> Result<(f64, i64), Box<dyn Error>> {
     // both pointers are to locals that are as large as the call asks for, and the child is our own
     let ended = unsafe { wait4(child.id() as i32, &mut status, 0, usage.as_mut_ptr()) };
     let seconds = start.elapsed().as_secs_f64();
-    if ended < 0 || status != 0 {
+    if ended < 0 || (status != 0 && status != REFUSED) {
         return Err(format!("{program} {words:?} failed").into());
     }
     Ok((seconds, usage[RESIDENT]))

@@ -4,3 +4,4 @@ pub mod Accepting
 pub mod Turns
 pub mod Windows
 pub mod Truncated
+pub mod Asks

@@ -8,6 +8,7 @@ use Rattle.toml.specs.Data.{Members, as_table}
 use Rattle.coupling_run.specs.Form.{◌>>=◌, tree_of, is_tree_of, value_beside, window_count, only_item, number_units, windows_of, add_of, is_second_case}
 use Rattle.coupling_run.specs.Answer.{MayAskCases, MayAsk, MayAskBoth}
 use Rattle.coupling_run.specs.Outcome.{accepted_outcome, config_outcome, cases_outcome, loaded_outcome}
+use Rattle.coupling_run.specs.declared.words.CommandWord.TheVariants.{Solo}
 use Rattle.coupling_run.specs.declared.base.TheConstants.{CONFIGURATION, FIRST_CASE, FIRST_ROW, SECOND_CASE}
 
 too_long : (bytes : List ℕ) → 1048576 < length bytes → tree_of bytes ≡ None
@@ -45,7 +46,7 @@ pub accepted_from : (files : FileMap) (name config bytes : List ℕ) (windows : 
 accepted_from files name config bytes windows is same given = ap (accepted_outcome files) (sym given) ∙ config_from files name config bytes is same
 
 -- the case files may be asked for once the configuration is accepted
-pub may_ask-both : (told : Option FileMap) (may_ask : List ℕ → Bool) (name bytes : List ℕ) (windows : ℕ) → ((files : FileMap) → told ≡ Some files → (file : List ℕ) × (files name ≡ Some file) × (bytes ≡ take 1048577 file)) → windows_of bytes ≡ Some windows → MayAsk told may_ask (Some name) → MayAskBoth told may_ask windows
+pub may_ask-both : (told : Option FileMap) (may_ask : List ℕ → Bool) (name bytes : List ℕ) (windows : ℕ) → ((files : FileMap) → told ≡ Some files → (file : List ℕ) × (files name ≡ Some file) × (bytes ≡ take 1048577 file)) → windows_of bytes ≡ Some windows → MayAsk told may_ask (Some (record { word = Solo; name = name })) → MayAskBoth told may_ask windows
 may_ask-both None may_ask name bytes windows loaded given asks = asks
 may_ask-both (Some files) may_ask name bytes windows loaded given asks =
     let (file, is, same) = loaded files refl in

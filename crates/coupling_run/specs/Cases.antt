@@ -1,6 +1,6 @@
 -- The solvers of the cases that are accepted: A gives what it reads and `add`, B half of what it reads. The project's
 -- own.
-use Rattle.std.specs.Prelude.{Option, None, List, [], ◌∷◌, ℤ, pos}
+use Rattle.std.specs.Prelude.{None, List, [], ◌∷◌, ℤ, pos}
 use Rattle.line_solvers.specs.declared.case.ReadWhen.TheVariants.{End}
 use Rattle.line_solvers.specs.LineMeaning.{LineSpec, of_rows}
 

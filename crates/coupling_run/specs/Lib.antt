@@ -13,6 +13,8 @@ pub mod Cases
 pub mod Status
 pub mod Words
 pub mod Outcome
+pub mod CheckText
+pub mod Served
 pub mod WorkedRuns
 pub mod Answer
 pub mod Unanswered

@@ -6,7 +6,6 @@ use Rattle.line_solvers.specs.LineMeaning.{line_behaviour}
 use Rattle.coupling_run.specs.Cases.{first_spec, second_spec, opening_state}
 use Rattle.coupling_run.specs.Form.{windows_of, add_of, is_second_case}
 use Rattle.coupling_run.specs.LoopResults.{LoopResults, loop_results}
-use Rattle.coupling_run.specs.Words.{config_name}
 use Rattle.coupling_run.specs.ReportText.{report, fault_line, line_feed}
 use Rattle.coupling_run.specs.declared.fault.Fault.{Fault}
 use Rattle.coupling_run.specs.declared.status.Status.{Status}
@@ -74,11 +73,3 @@ accepted_outcome files (Some windows) = loaded_outcome windows (files first_case
 abbrev pub config_outcome : FileMap → Option (List ℕ) → Outcome
 config_outcome files None = unread
 config_outcome files (Some config) = accepted_outcome files (windows_of config)
-
-abbrev pub command_outcome : FileMap → Option (List ℕ) → Outcome
-command_outcome files None = usage
-command_outcome files (Some name) = config_outcome files (files name)
-
--- the outcome of the words over the files
-abbrev pub outcome : List (List ℕ) → FileMap → Outcome
-outcome words files = command_outcome files (config_name words)

@@ -1,5 +1,5 @@
 -- Two runs worked by hand. The project's own.
-use Rattle.std.specs.Prelude.{ℕ, List, ◌++◌, codes}
+use Rattle.std.specs.Prelude.{◌++◌, codes}
 use Rattle.coupling_run.specs.Outcome.{Outcome}
 use Rattle.coupling_run.specs.ReportText.{line_feed}
 use Rattle.coupling_run.specs.declared.status.Status.TheVariants.{Ok, RunFault}

@@ -5,6 +5,7 @@
 
 pub mod answer;
 mod base;
+pub mod check;
 pub mod driver;
 pub mod fault;
 mod form;

@@ -4,14 +4,17 @@ ghost use Rattle.io_edge.specs.Rose.{Rose};
 ghost use Rattle.io_edge.specs.Taken.{taken_more, TookPrefix};
 ghost use Rattle.coupling_run.specs.Answer.{outcome_of, Answers, MayAsk, MayAskBoth, IsServed, IsAnswerTo};
 ghost use Rattle.coupling_run.specs.Form.{add_of, is_second_case};
-ghost use Rattle.coupling_run.specs.Outcome.{outcome, usage, refused_at, config_outcome, loaded_outcome, cases_outcome, first_case_name, second_case_name};
-ghost use Rattle.coupling_run.specs.Words.{config_name};
+ghost use Rattle.coupling_run.specs.Outcome.{usage, refused_at, config_outcome, loaded_outcome, cases_outcome, first_case_name, second_case_name};
+ghost use Rattle.coupling_run.specs.Served.{word_outcome, outcome};
+ghost use Rattle.coupling_run.specs.Words.{asked_by, asked_of};
+ghost use Rattle.coupling_run.specs.declared.words.CommandWord.TheVariants.{Solo};
 
 use crate::answer::{Answer, Unanswered};
+use crate::check::check;
 use crate::form::{accepted_first, accepted_windows, accepts_second};
 use crate::run::run;
 use crate::status::Status;
-use crate::words::config_name;
+use crate::words::{Command, CommandWord, asked_of};
 use fixed_num::Memory;
 use io_edge::{Files, Sink, put_all};
 use std::alloc::Global;
@@ -30,25 +33,25 @@ const USAGE: &str =
     "usage: coupling run <config> [--workers N] | solo <config> [--schedule S] | check <config> | mill <number>\n";
 
 /// Serves the words of a command line without the program's name, on one thread: loads the files
-/// that they name, runs the case, and writes the report, or why there is none.
+/// that they name, runs or checks the case, and writes the report, or why there is none.
 ///
-/// Only `solo` and a name are served. The text is made whole before its first byte is written.
+/// `solo` and `check` are served, each with a name. The text is made whole before its first byte is written.
 pub fn coupling_solo<F: Files, O: Sink>(
     alloc: Global,
     words: &[String],
     files: &mut F,
     out: &mut O,
 ) -> Status
-    requires may_ask { MayAsk (F.told files.old) (F.may_ask files.old) (config_name (map string_bytes words.now)) }
+    requires may_ask { MayAsk (F.told files.old) (F.may_ask files.old) (asked_of (map string_bytes words.now)) }
 
     // Where the files tell their bytes, status and bytes are the outcome's.
     ensures outcome { (told : FileMap) → F.told files.old ≡ Some told →
         Answers (outcome (map string_bytes words.now) told) result (O.taken out.old) (O.taken out.new) }
 
     // Words that refuse are answered so whatever the files tell.
-    ensures usage { config_name (map string_bytes words.now) ≡ None →
+    ensures usage { asked_of (map string_bytes words.now) ≡ None →
         (result ≢ Status.ReadFault) × Answers usage result (O.taken out.old) (O.taken out.new) }
-    ensures usage_only { result ≡ Status.Usage → config_name (map string_bytes words.now) ≡ None }
+    ensures usage_only { result ≡ Status.Usage → asked_of (map string_bytes words.now) ≡ None }
 
     // Each fault has its cause.
     ensures read_fault { result ≡ Status.ReadFault → Rose (F.faults files.old) (F.faults files.new) }
@@ -85,24 +88,40 @@ fn tell<O: Sink>(out: &mut O, answer: &Answer) -> Status
 
 /// The answer to the words.
 fn answer<F: Files>(alloc: Global, words: &[String], files: &mut F) -> Result<Answer, Unanswered>
-    requires { MayAsk (F.told files.old) (F.may_ask files.old) (config_name (map string_bytes words.now)) }
+    requires { MayAsk (F.told files.old) (F.may_ask files.old) (asked_of (map string_bytes words.now)) }
     ensures outcome { IfOk result (λ answer. (told : FileMap) → F.told files.old ≡ Some told →
         outcome_of answer ≡ outcome (map string_bytes words.now) told) }
-    ensures known { IfOk result (IsAnswerTo (config_name (map string_bytes words.now))) }
-    ensures usage { config_name (map string_bytes words.now) ≡ None → ¬ IsErrOf result Unanswered.ReadFault }
+    ensures known { IfOk result (IsAnswerTo (asked_of (map string_bytes words.now))) }
+    ensures usage { asked_of (map string_bytes words.now) ≡ None → ¬ IsErrOf result Unanswered.ReadFault }
     ensures read_fault { IsErrOf result Unanswered.ReadFault → Rose (F.faults files.old) (F.faults files.new) }
     ensures same_told { F.told files.new ≡ F.told files.old }
     ensures never_falls { F.faults files.old ≤ F.faults files.new }
 {
-    match config_name(words) {
-        Some(name) => solo(alloc, files, name),
+    match asked_of(words) {
+        Some(command) => serve(alloc, files, command),
         None => Ok(usage_answer(alloc)?),
+    }
+}
+
+/// The answer to a command.
+fn serve<F: Files>(alloc: Global, files: &mut F, command: Command) -> Result<Answer, Unanswered>
+    requires { MayAsk (F.told files.old) (F.may_ask files.old) (Some (asked_by command)) }
+    ensures outcome { IfOk result (λ answer. (told : FileMap) → F.told files.old ≡ Some told →
+        outcome_of answer ≡ word_outcome (command.entry).word told (command.entry).name.now) }
+    ensures served { IfOk result (λ answer. IsServed answer.status) }
+    ensures read_fault { IsErrOf result Unanswered.ReadFault → Rose (F.faults files.old) (F.faults files.new) }
+    ensures same_told { F.told files.new ≡ F.told files.old }
+    ensures never_falls { F.faults files.old ≤ F.faults files.new }
+{
+    match command.word {
+        CommandWord::Solo => solo(alloc, files, command.name),
+        CommandWord::Check => check(alloc, files, command.name),
     }
 }
 
 /// The answer for a configuration of this name.
 fn solo<F: Files>(alloc: Global, files: &mut F, name: &str) -> Result<Answer, Unanswered>
-    requires { MayAsk (F.told files.old) (F.may_ask files.old) (Some name.now) }
+    requires { MayAsk (F.told files.old) (F.may_ask files.old) (Some (record { word = Solo; name = name.now })) }
     ensures outcome { IfOk result (λ answer. (told : FileMap) → F.told files.old ≡ Some told →
         outcome_of answer ≡ config_outcome told (told name.now)) }
     ensures served { IfOk result (λ answer. IsServed answer.status) }

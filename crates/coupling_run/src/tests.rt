@@ -1,3 +1,5 @@
+mod check;
+
 use crate::solo::coupling_solo;
 use crate::status::Status;
 use io_edge::{MemFiles, MemSink};
@@ -113,6 +115,9 @@ fn answers_the_words(rt: HostRuntime) -> Result<(), Fail> {
         ("solo", Status::Usage, USAGE),
         ("walk ab.toml", Status::Usage, USAGE),
         ("solo -ab.toml", Status::Usage, USAGE),
+        ("check", Status::Usage, USAGE),
+        ("check -ab.toml", Status::Usage, USAGE),
+        ("ab.toml check", Status::Usage, USAGE),
         ("solo ab.toml ab.toml", Status::Usage, USAGE),
         ("solo none.toml", Status::ReadFault, ""),
         ("solo b.toml", Status::Refused, "refused C0 at config\n"),

@@ -1,25 +1,55 @@
-ghost use Rattle.std.specs.Prelude.{◌≡◌, map, string_bytes, option_copied};
-ghost use Rattle.coupling_run.specs.Words.{is_name, name_after, config_name};
+ghost use Rattle.std.specs.Prelude.{◌≡◌, map, string_bytes, option_map};
+ghost use Rattle.coupling_run.specs.Words.{asked_by, command_word, is_name, asked_with, asked_of};
 
-/// The name of the configuration that the words ask to run: the words are `solo` and a name. Every
-/// other list of words asks for nothing that is served.
-pub fn config_name(words: &[String]) -> Option<&str>
-    ensures { option_copied result ≡ config_name (map string_bytes words.now) }
+/// The commands that are served.
+#[derive(Clone, Copy, Debug, PartialEq, Eq)]
+pub enum CommandWord {
+    /// Runs a case on one thread.
+    Solo,
+    /// Tells whether a case is accepted.
+    Check,
+}
+
+/// A command, and the name of the configuration that it is for.
+#[derive(Clone, Copy, Debug)]
+pub struct Command<'a> {
+    pub word: CommandWord,
+    pub name: &'a str,
+}
+
+/// What the words ask for: a command that is served and a name, in this order. Every other list of
+/// words asks for nothing that is served.
+pub fn asked_of(words: &[String]) -> Option<Command<'_>>
+    ensures { option_map asked_by result ≡ asked_of (map string_bytes words.now) }
 {
     match words {
-        [command, name] => name_after(command.as_str(), name.as_str()),
+        [word, name] => asked_with(word.as_str(), name.as_str()),
         _ => None,
     }
 }
 
-fn name_after<'a>(command: &str, name: &'a str) -> Option<&'a str>
-    ensures { option_copied result ≡ name_after command.now name.now }
+fn asked_with<'a>(word: &str, name: &'a str) -> Option<Command<'a>>
+    ensures { option_map asked_by result ≡ asked_with word.now name.now }
 {
-    if command == "solo" && is_name(name) {
-        Some(name)
-    } else {
-        None
+    if !is_name(name) {
+        return None;
     }
+    match command_word(word) {
+        Some(word) => Some(Command { word, name }),
+        None => None,
+    }
+}
+
+fn command_word(word: &str) -> Option<CommandWord>
+    ensures { result ≡ command_word word.now }
+{
+    if word == "solo" {
+        return Some(CommandWord::Solo);
+    }
+    if word == "check" {
+        return Some(CommandWord::Check);
+    }
+    None
 }
 
 /// Whether a word is a name: it is not empty and does not begin with a dash.
