@@ -12,22 +12,6 @@ use Rattle.accepted_case.proofs.Cuts.{config_acceptance-cut}
 abbrev pub IsLoaded : Option FileMap → (name bytes : List ℕ) → Type 0
 IsLoaded o name bytes = (told : FileMap) → o ≡ Some told → (file : List ℕ) × (told name ≡ Some file) × (bytes ≡ cut file)
 
-pub the_name : (o : Option FileMap) (may_ask : List ℕ → Bool) (name : List ℕ) → MayLoad o may_ask name → IsTrue (may_ask name)
-the_name None may_ask name h = h name
-the_name (Some told) may_ask name h = h.0
-
-pub the_next : (o : Option FileMap) (may_ask : List ℕ → Bool) (name : List ℕ) (names : List (List ℕ)) → MayLoadNames o may_ask (name ∷ names) → IsTrue (may_ask name)
-the_next None may_ask name names h = h name
-the_next (Some told) may_ask name names h = h.0
-
-there : (found : Option (List ℕ)) (file : List ℕ) → found ≡ Some file → IsSome found
-there None file is = cc
-there (Some other) file is = refl
-
-pub those_after : (o : Option FileMap) (may_ask : List ℕ → Bool) (name bytes : List ℕ) (names : List (List ℕ)) → IsLoaded o name bytes → MayLoadNames o may_ask (name ∷ names) → MayLoadNames o may_ask names
-those_after None may_ask name bytes names loaded h = h
-those_after (Some told) may_ask name bytes names loaded h = let (file, is, _) = loaded told refl in h.1 (there (told name) file is)
-
 -- the case files of a configuration that is accepted
 pub its_cases : (o : Option FileMap) (may_ask : List ℕ → Bool) (name bytes : List ℕ) (config : Config) → IsLoaded o name bytes → config_acceptance bytes ≡ Ok config → MayLoad o may_ask name → MayLoadNames o may_ask (case_names config)
 its_cases None may_ask name bytes config loaded is h = h

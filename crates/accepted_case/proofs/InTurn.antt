@@ -15,7 +15,3 @@ behind done rest = result_map_both (λ others. done ++ others) (λ refusal. refu
 pub one_more : (done : List CaseFile) (case_file : CaseFile) (rest : Result (List CaseFile) Refusal) → behind done (and_then_those (Ok case_file) rest) ≡ behind (done ++ case_file ∷ []) rest
 one_more done case_file (Err refusal) = refl
 one_more done case_file (Ok others) = ap Ok (sym (append_assoc done (case_file ∷ []) others))
-
-pub stopped : (done : List CaseFile) (found : Result CaseFile Refusal) (rest : Result (List CaseFile) Refusal) (e : ConfigErr) → Answers found (Err e) → Answers (behind done (and_then_those found rest)) (Err e)
-stopped done found rest (Refused refusal) h = rw h refl
-stopped done found rest Memory h = tt

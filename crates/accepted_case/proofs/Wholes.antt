@@ -26,9 +26,3 @@ checked_err whole found meant refusal unit e is by_check h =
 pub checked_ok : {A B : Type 0} (whole : Result A Refusal → Result A Refusal) (found : Result A Refusal) (meant : A) (refusal : Option Refusal) (unit given : B)
     → found ≡ Ok meant → whole (Ok meant) ≡ unless_refused refusal meant → unless_refused refusal unit ≡ Ok given → whole found ≡ Ok meant
 checked_ok whole found meant refusal unit given is by_check h = ap whole is ∙ by_check ∙ let_pass refusal unit given meant h
-
--- what was refused before is so as a whole
-pub refused_before : {A : Type 0} (whole : Result A Refusal → Result A Refusal) (found : Result A Refusal) (e : ConfigErr) → ((refusal : Refusal) → whole (Err refusal) ≡ Err refusal)
-    → Answers found (Err e) → Answers (whole found) (Err e)
-refused_before whole found (Refused refusal) kept h = ap whole h ∙ kept refusal
-refused_before whole found Memory kept h = tt

@@ -33,33 +33,43 @@ pub fn all_pass<T: ItemTest>(items: &[Value], test: &T) -> bool
     true
 }
 
+/// An item is a text.
 #[derive(Clone, Copy)]
 pub struct IsText;
 
+/// An item is a whole number.
 #[derive(Clone, Copy)]
 pub struct IsInteger;
 
+/// An item is written as a number is: a text or a whole number.
 #[derive(Clone, Copy)]
 pub struct IsNumber;
 
+/// An item is a table.
 #[derive(Clone, Copy)]
 pub struct IsTable;
 
+/// An item is a list of numbers.
 #[derive(Clone, Copy)]
 pub struct IsPoint;
 
+/// An item is an index and a number.
 #[derive(Clone, Copy)]
 pub struct IsPair;
 
+/// An item is spelled as a name.
 #[derive(Clone, Copy)]
 pub struct IsName;
 
+/// An item is spelled as a number, within a range in units.
 #[derive(Clone, Copy)]
 pub struct IsNumberIn(pub Range);
 
+/// An item has numbers only that are spelled so, each within a range in units.
 #[derive(Clone, Copy)]
 pub struct IsPointIn(pub Range);
 
+/// The second of a pair is spelled as a number, within a range in units.
 #[derive(Clone, Copy)]
 pub struct IsPairIn(pub Range);
 

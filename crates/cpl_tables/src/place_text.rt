@@ -1,5 +1,5 @@
 //! Places as text.
-ghost use Rattle.std.specs.Prelude.{◌≡◌, ◌++◌, OnOk, codes};
+ghost use Rattle.std.specs.Prelude.{◌≡◌, ◌++◌, OnOk, OnErr, IfOk, codes};
 ghost use Rattle.cpl_tables.specs.PlaceText.{numbered, of_participant, of_scheme, place_text};
 
 use crate::places::Place;
@@ -8,7 +8,27 @@ use std::alloc::Global;
 
 /// Appends a place as it is printed. The name is that of the participant whose case file it is, and
 /// is printed for a place in a case file alone.
+///
+/// After [`Memory`], `to` is as before.
 pub fn print_place(alloc: Global, place: Place, name: &str, to: &mut Vec<u8>) -> Result<(), Memory>
+    ensures ok { OnOk result (to.new.items ≡ to.old.items ++ place_text name.now place) }
+    ensures err { OnErr result (to.new.items ≡ to.old.items) }
+{
+    let text = text_of_place(alloc, place, name)?;
+    to.extend_from_slice(text.as_slice())?;
+    Ok(())
+}
+
+fn text_of_place(alloc: Global, place: Place, name: &str) -> Result<Vec<u8>, Memory>
+    ensures { IfOk result (λ text. text.items ≡ place_text name.now place) }
+{
+    let mut text = Vec::new(alloc);
+    push_place(alloc, place, name, &mut text)?;
+    Ok(text)
+}
+
+/// Appends a place, or a part of it where memory is wanting.
+fn push_place(alloc: Global, place: Place, name: &str, to: &mut Vec<u8>) -> Result<(), Memory>
     ensures { OnOk result (to.new.items ≡ to.old.items ++ place_text name.now place) }
 {
     match place {

@@ -67,12 +67,14 @@ pub fn number_of_pair(value: &Value) -> Option<i64>
     }
 }
 
+/// Whether a value is a text.
 pub fn is_text(value: &Value) -> bool
     ensures { result ≡ is_text (view value.now) }
 {
     matches!(value, Value::String(_))
 }
 
+/// Whether a value is a whole number.
 pub fn is_integer(value: &Value) -> bool
     ensures { result ≡ is_integer (view value.now) }
 {
@@ -86,6 +88,7 @@ pub fn is_number(value: &Value) -> bool
     matches!(value, Value::String(_) | Value::Integer(_))
 }
 
+/// Whether a value is a table.
 pub fn is_table(value: &Value) -> bool
     ensures { result ≡ is_table (view value.now) }
 {
