@@ -1,9 +1,17 @@
 -- Values, coordinates, factors and the rounded quotient. The project's own: the coupling documentation has floating point.
-use Rattle.std.specs.Prelude.{◌≡◌, ℕ, ◌+◌, ◌*◌, ◌/◌, ◌%◌, ◌^◌, ◌≤◌, ℤ, pos, negsuc, neg_ℤ, ◌-ℤ◌, ◌*ℤ◌, unsigned_abs, nat_lt, if◌then◌else◌, suc}
+use Rattle.std.specs.Prelude.{◌≡◌, ℕ, ◌+◌, ◌*◌, ◌/◌, ◌%◌, ◌^◌, ◌≤◌, Bool, ℤ, pos, negsuc, neg_ℤ, ◌-ℤ◌, ◌*ℤ◌, unsigned_abs, nat_lt, nat_le, if◌then◌else◌, suc}
 
 -- a Value is a whole number of units within 10^13
 abbrev pub IsValue : ℤ → Type 0
 IsValue units = unsigned_abs units ≤ 10 ^ 13
+
+-- whether a number of units is a Value
+abbrev pub is_value : ℤ → Bool
+is_value units = nat_le (unsigned_abs units) (10 ^ 13)
+
+-- a coordinate is a whole number of units within 10^12
+abbrev pub IsCoordinate : ℤ → Type 0
+IsCoordinate units = unsigned_abs units ≤ 10 ^ 12
 
 -- a Factor is a whole number of units within 10^9
 abbrev pub IsFactor : ℤ → Type 0

@@ -1,5 +1,7 @@
-ghost use Rattle.std.specs.Prelude.{◌≡◌, length};
+ghost use Rattle.std.specs.Prelude.{◌≡◌, length, IfOk};
 
+use crate::memory::Memory;
+use std::alloc::Global;
 use std::marker::Model;
 
 /// A `Vec` that contracts see as the list of its items and nothing else.
@@ -49,5 +51,17 @@ impl<T> Items<T> {
         ensures { result ≡ length self.now }
     {
         self.items.len()
+    }
+}
+
+impl<T: Copy> Items<T> {
+    /// Equal items in memory of their own. Items that hold memory themselves have
+    /// [`CopyIn`](crate::CopyIn).
+    pub fn copy(&self, alloc: Global) -> Result<Items<T>, Memory>
+        ensures { IfOk result (λ copy. copy ≡ self.now) }
+    {
+        Ok(Items {
+            items: Vec::from_slice(alloc, self.items.as_slice())?,
+        })
     }
 }

@@ -1,5 +1,8 @@
-ghost use Rattle.std.specs.Prelude.{◌≡◌, ◌≤◌, ◌*◌, ◌^◌, All, length, ◌*ℤ◌, unsigned_abs, sum_by};
-ghost use Rattle.fixed_num.specs.Norm.{IsRoot, IsNorm, square, product_sum};
+ghost use Rattle.std.specs.Prelude.{◌≡◌, ◌≤◌, ◌*◌, ◌^◌, All, length, ◌-ℤ◌, ◌*ℤ◌, unsigned_abs, sum_by};
+ghost use Rattle.std.specs.List.{zip};
+ghost use Rattle.fixed_num.specs.Norm.{IsRoot, square, product_sum};
+
+use crate::in_units::InUnits;
 
 /// The greatest whole number whose square is at most `n`, which is at most 10^36.
 pub fn root_floor(n: u128) -> u64
@@ -12,18 +15,30 @@ pub fn root_floor(n: u128) -> u64
 /// The norm: the greatest whole number whose square is at most the sum of the squares.
 ///
 /// At most 30,000 numbers, each within 4·10^13: their squares sum to less than 10^36.
-pub fn norm(d: &[i64]) -> u64
+pub fn norm<T: InUnits>(d: &[T]) -> u64
     requires few { length d.now ≤ 30000 }
-    requires small { All (λ x. unsigned_abs x ≤ 4 * 10 ^ 13) d.now }
-    ensures { IsNorm d.now result }
+    requires small { All T.is_small d.now }
+    ensures { IsRoot (sum_by (λ x. square (T.units x)) d.now) result }
 {
     root_floor(sum_of_squares(d))
 }
 
-fn sum_of_squares(d: &[i64]) -> u128
+/// The norm of the differences, pair by pair, of at most 30,000 pairs of numbers within 4·10^13.
+pub fn norm_of_difference<T: InUnits>(a: &[T], b: &[T]) -> u64
+    requires few { length a.now ≤ 30000 }
+    requires alike { length b.now ≡ length a.now }
+    requires first { All T.is_small a.now }
+    requires second { All T.is_small b.now }
+    ensures { IsRoot (sum_by (λ p. square (T.units p.0 -ℤ T.units p.1)) (zip a.now b.now)) result }
+{
+    root_floor(square_distance(a, b))
+}
+
+/// The sum of the squares of at most 30,000 numbers within 4·10^13, in square units. It is exact.
+pub fn sum_of_squares<T: InUnits>(d: &[T]) -> u128
     requires few { length d.now ≤ 30000 }
-    requires small { All (λ x. unsigned_abs x ≤ 4 * 10 ^ 13) d.now }
-    ensures value { result ≡ sum_by square d.now }
+    requires small { All T.is_small d.now }
+    ensures value { result ≡ sum_by (λ x. square (T.units x)) d.now }
     ensures bound { result ≤ 10 ^ 36 }
 {
     let mut sum = 0;
@@ -34,12 +49,40 @@ fn sum_of_squares(d: &[i64]) -> u128
 }
 
 /// The square of a number within 4·10^13.
-fn square(x: i64) -> u128
-    requires { unsigned_abs x ≤ 4 * 10 ^ 13 }
-    ensures value { result ≡ square x }
+fn square<T: InUnits>(x: T) -> u128
+    requires { T.is_small x }
+    ensures value { result ≡ square (T.units x) }
     ensures bound { result ≤ 16 * 10 ^ 26 }
 {
-    let size = u128::from(x.unsigned_abs());
+    let size = u128::from(x.units().unsigned_abs());
+    size * size
+}
+
+/// The square of the distance: the sum of the squares of the differences, pair by pair, of at most
+/// 30,000 pairs of numbers within 4·10^13, in square units. It is exact.
+pub fn square_distance<T: InUnits>(a: &[T], b: &[T]) -> u128
+    requires few { length a.now ≤ 30000 }
+    requires alike { length b.now ≡ length a.now }
+    requires first { All T.is_small a.now }
+    requires second { All T.is_small b.now }
+    ensures value { result ≡ sum_by (λ p. square (T.units p.0 -ℤ T.units p.1)) (zip a.now b.now) }
+    ensures bound { result ≤ 10 ^ 36 }
+{
+    let mut sum = 0;
+    for (x, y) in a.iter().zip(b) {
+        sum += square_of_difference(*x, *y);
+    }
+    sum
+}
+
+/// The square of the difference of two numbers within 4·10^13.
+fn square_of_difference<T: InUnits>(x: T, y: T) -> u128
+    requires first { T.is_small x }
+    requires second { T.is_small y }
+    ensures value { result ≡ square (T.units x -ℤ T.units y) }
+    ensures bound { result ≤ 64 * 10 ^ 26 }
+{
+    let size = u128::from(x.units().abs_diff(y.units()));
     size * size
 }
 

@@ -1,6 +1,9 @@
 ghost use Rattle.std.specs.Prelude.{◌≤◌, ◌*◌, ◌^◌, ◌≤ℤ◌, pos, unsigned_abs};
 
-use crate::{Items, Name, aitken, dot, factor_of, norm, quot_even, relax, root_floor, value_of};
+use crate::{
+    CopyIn, Items, Name, Value, aitken, copies_of, dot, factor_of, norm, norm_of_difference,
+    quot_even, relax, root_floor, square_distance, sum_of_squares, value_of,
+};
 use std::test::Fail;
 
 #[test]
@@ -46,6 +49,9 @@ fn names_and_items_give_back_what_they_hold(rt: HostRuntime) -> Result<(), Fail>
     let items = Items::from_vec(vec![in alloc; 1, 2, 3]?);
     assert_eq!(rt; items.as_slice(), [1, 2, 3].as_slice());
     assert_eq!(rt; items.len(), 3);
+    assert_eq!(rt; items.copy(alloc)?.as_slice(), [1, 2, 3].as_slice());
+    let names = Items::from_vec(copies_of(alloc, &[name])?);
+    assert_eq!(rt; names.copy_in(alloc)?.as_slice()[0].as_str(), "Fluid");
     assert_eq!(rt; items.into_vec().as_slice(), [1, 2, 3].as_slice());
     Ok(())
 }
@@ -74,13 +80,21 @@ fn roots_are_rounded_down(rt: HostRuntime) {
 
 #[test]
 fn norms_and_products(rt: HostRuntime) {
-    assert_eq!(rt; norm(&[]), 0);
-    assert_eq!(rt; norm(&[3, -4]), 5);
-    assert_eq!(rt; norm(&[1, 1, 1]), 1);
-    assert_eq!(rt;
-        norm(&[40_000_000_000_000, 40_000_000_000_000]),
-        56_568_542_494_923
-    );
+    let far = 40_000_000_000_000;
+    let cases = [
+        ([0, 0, 0], 0),
+        ([3, -4, 0], 5),
+        ([1, 1, 1], 1),
+        ([far, far, 0], 56_568_542_494_923),
+    ];
+    for (numbers, root) in cases {
+        assert_eq!(rt; norm(&numbers), root);
+        assert_eq!(rt; norm_of_difference(&numbers, &[0, 0, 0]), root);
+    }
+    assert_eq!(rt; norm_of_difference(&[far], &[-far]), 80_000_000_000_000);
+    assert_eq!(rt; norm(&[Value::default(); 2]), 0);
+    assert_eq!(rt; sum_of_squares(&[1, 1, 1]), 3);
+    assert_eq!(rt; square_distance(&[1, -2], &[4, 2]), 25);
     assert_eq!(rt; dot(&[], &[]), 0);
     assert_eq!(rt; dot(&[-1, 2, 3], &[4, -5, 6]), 4);
 }

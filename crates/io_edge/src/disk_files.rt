@@ -1,20 +1,17 @@
-ghost use Rattle.std.specs.Prelude.{◌≡◌, ℕ, ◌+◌, ◌≤◌, ◌++◌, List, length, None, true, OnOk, OnErr, IfOk, IsErrOf};
+ghost use Rattle.std.specs.Prelude.{◌≡◌, ◌≤◌, None, true, OnOk, OnErr, IsErrOf};
 ghost use Rattle.io_edge.specs.Counter.{next_count};
 ghost use Rattle.io_edge.specs.Loads.{AppendsSome};
 ghost use Rattle.io_edge.specs.Rose.{Rose};
 
 use crate::files::{Files, LoadErr};
+use crate::reading::load_from;
 use std::fs;
-use std::io::Read;
 use std::marker::Model;
 use std::rt::Files as RuntimeFiles;
 
-/// How many bytes are read at a time.
-const PIECE: usize = 4096;
-
-/// The files of a runtime: every name may be asked, and no content is known.
+/// The files of a runtime: every name may be asked, as it stands, and no content is known.
 ///
-/// Any error of the runtime counts as a failure, also that a call was interrupted.
+/// Of an opened file [`load_from`] reads on to the end. Any error of the runtime counts as a failure, also that a call was interrupted.
 #[derive(Drop)]
 pub struct DiskFiles<'a, R> {
     rt: &'a R,
@@ -56,50 +53,23 @@ impl<R: RuntimeFiles> Files for DiskFiles<'_, R> {
         ensures counted { IsErrOf result LoadErr.Failed → self.new ≡ next_count self.old }
         ensures uncounted { ¬ IsErrOf result LoadErr.Failed → self.new ≡ self.old }
     {
-        let before = into.len();
-        let read = read_file(self.rt, name, most, into);
-        if read.is_err() {
-            into.truncate(before);
-        }
-        if let Err(LoadErr::Failed) = read {
+        let loaded = load_named(self.rt, name, most, into);
+        if let Err(LoadErr::Failed) = loaded {
             self.faults = self.faults.saturating_add(1);
         }
-        read
+        loaded
     }
 }
 
-// Appends what the file gives, up to one byte more than asked for; also an error leaves the old
-// bytes at the front.
-fn read_file<R: RuntimeFiles>(
+fn load_named<R: RuntimeFiles>(
     rt: &R,
     name: &str,
     most: usize,
     into: &mut Vec<u8>,
 ) -> Result<(), LoadErr>
-    ensures { AppendsSome most into.old.items into.new.items }
-{
-    let mut file = fs::open(rt, name).map_err(|_| LoadErr::Failed)?;
-    let mut left = most.saturating_add(1);
-    while left > 0 {
-        let count = read_piece(&mut file, left, into)?;
-        if count == 0 {
-            break;
-        }
-        left -= count;
-    }
-    Ok(())
-}
-
-// Appends the bytes of one read, `left` at most, and gives their number: 0 at the end of the file.
-fn read_piece<F: Read>(file: &mut F, left: usize, into: &mut Vec<u8>) -> Result<usize, LoadErr>
-    ensures within { IfOk result (λ n. n ≤ left) }
-    ensures ok { IfOk result (λ n. (piece : List ℕ) × (length piece ≡ n)
-        × (into.new.items ≡ into.old.items ++ piece)) }
+    ensures ok { OnOk result (AppendsSome most into.old.items into.new.items) }
     ensures err { OnErr result (into.new.items ≡ into.old.items) }
 {
-    let mut piece = [0u8; PIECE];
-    let end = left.min(PIECE);
-    let count = file.read(&mut piece[..end]).map_err(|_| LoadErr::Failed)?;
-    into.extend_from_slice(&piece[..count])?;
-    Ok(count)
+    let mut file = fs::open(rt, name).map_err(|_| LoadErr::Failed)?;
+    load_from(&mut file, most, into)
 }

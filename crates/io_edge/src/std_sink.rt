@@ -3,8 +3,8 @@ ghost use Rattle.io_edge.specs.Counter.{next_count};
 ghost use Rattle.io_edge.specs.Rose.{Rose};
 
 use crate::sink::{PutErr, Sink};
+use crate::writing::put_to;
 use std::io;
-use std::io::Write;
 use std::marker::Model;
 
 /// The standard output of a runtime: what it takes is not known.
@@ -50,12 +50,10 @@ impl<R: Print> Sink for StdSink<'_, R> {
         ensures counted { OnErr result (self.new ≡ next_count self.old) }
         ensures uncounted { OnOk result (self.new ≡ self.old) }
     {
-        match io::writer(self.rt).write(bytes) {
-            Ok(count) if count > 0 || bytes.is_empty() => Ok(count),
-            _ => {
-                self.faults = self.faults.saturating_add(1);
-                Err(PutErr::Failed)
-            }
+        let put = put_to(&mut io::writer(self.rt), bytes);
+        if put.is_err() {
+            self.faults = self.faults.saturating_add(1);
         }
+        put
     }
 }

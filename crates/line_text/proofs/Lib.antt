@@ -4,3 +4,4 @@ pub mod Parts
 pub mod Meanings
 pub mod Printed
 pub mod Shape
+pub mod WholeParts

@@ -1,17 +1,18 @@
 -- The printed form: each number's text has it, reads back, and is the number's only text of that form.
 use Rattle.std.proofs.Common.{◌≡◌, ◌≢◌, ℕ, zero, suc, ◌+◌, ◌-◌, ◌*◌, ◌/◌, ◌%◌, ◌^◌, ◌<◌, ◌≤◌, Bool, true, false, ◌&&◌, List, [], ◌∷◌, length, length-append, get_or, ℤ, pos, negsuc, neg_ℤ, unsigned_abs, Option, Some, None, unwrap_or, nat_lt, IfSome, Ok, decimal, refl, sym, ◌∙◌, ap, subst, arith, lit<, if◌then◌else◌}
 use Rattle.std.proofs.Math.ListN.{get_or-append}
-use Rattle.std.proofs.lemmas.Bool.{ne_eqb, ltb-true, ltb-false, false≢true}
-use Rattle.std.proofs.lemmas.Fmt.{decimal_digit, decimal_is_IsNumeral_wide, decimal_by_steps_wide, decimal-digits_value}
+use Rattle.std.proofs.lemmas.Bool.{ne_eqb, ltb-true, false≢true}
+use Rattle.std.proofs.lemmas.Fmt.{decimal_digit, decimal_is_IsNumeral_wide, decimal_by_steps_wide}
 use Rattle.std.proofs.lemmas.Nat.{mod_below, div-add-mod', div-mul-add, mod-mul-add}
 use Rattle.std.specs.Str.{all_ascii_digits}
 use Rattle.std.specs.Str.Parse.{digits_value}
 use Rattle.fixed_num.specs.Numbers.{IsValue}
 use Rattle.line_text.proofs.Decimals.{digits_none, digits_all, digits_len, digits_some, digits_write, digits_last, worth_some, rebuilt}
 use Rattle.line_text.proofs.Digits.{own, all_from, all_decimals, digits_from, decimals-lt}
-use Rattle.line_text.proofs.Meanings.{graded_ok, reads_small, reads_spelled}
+use Rattle.line_text.proofs.Meanings.{size, reads_small}
 use Rattle.line_text.proofs.Parts.{number_parts}
-use Rattle.line_text.specs.PrintedForm.{IsShort, IsPrintedForm}
+use Rattle.line_text.proofs.WholeParts.{decimal_again}
+use Rattle.line_text.specs.PrintedForm.{IsShort, IsShortTextOf}
 use Rattle.line_text.specs.Printing.{decimal_digits, decimals_of, spelling_of, value_text}
 use Rattle.line_text.specs.Reading.{reading}
 use Rattle.line_text.specs.Spelling.{Spelling, Spells, text_of, is_digits, are_decimals, is_number, decimal_places, magnitude, units_of}
@@ -130,10 +131,10 @@ short_of : (units : ℤ) → unsigned_abs units < 10 ^ 64 → IsShort (spelling_
 short_of (pos n) lt = printed_short false n lt (λ e. absurd (false≢true e))
 short_of (negsuc n) lt = printed_short true (suc n) lt (λ _ e. negsuc_not n (sym (units_again (negsuc n) lt) ∙ e))
 
-pub has_form : (units : ℤ) → unsigned_abs units ≤ 2 ^ 127 → IsPrintedForm (value_text units)
+pub has_form : (units : ℤ) → unsigned_abs units ≤ 2 ^ 127 → IsShortTextOf units (value_text units)
 has_form units small =
     let lt : unsigned_abs units < 10 ^ 64 = omega (arith, small) in
-    (spelling_of units, spells_printed units lt, short_of units lt)
+    (spelling_of units, spells_printed units lt, short_of units lt, units_again units lt)
 
 -- the decimals of a short spelling are what is written of them
 decimals_again : (o : Option (List ℕ)) → are_decimals o ≡ true → length (unwrap_or o []) ≤ 6
@@ -147,7 +148,7 @@ decimals_again (Some ds) h le last =
     ∙ ap Some (rebuilt 6 ds digits le (λ _. last))
 
 -- a short spelling is what is printed of its number
-short_printed : (s : Spelling) → is_number s ≡ true → IsShort s → magnitude s ≤ 10 ^ 13 → printed s.is_negative (magnitude s) ≡ s
+short_printed : (s : Spelling) → is_number s ≡ true → IsShort s → magnitude s < 10 ^ 64 → printed s.is_negative (magnitude s) ≡ s
 short_printed s number short small =
     let ds : List ℕ = unwrap_or s.decimals [] in
     let w : ℕ = digits_value 10 s.whole in
@@ -157,9 +158,9 @@ short_printed s number short small =
     let whole_is : magnitude s / 10 ^ 6 ≡ w = div-mul-add w (10 ^ 6) p below in
     let rest_is : magnitude s % 10 ^ 6 ≡ p = mod-mul-add w (10 ^ 6) p below in
     let there : 0 < length s.whole = ltb-true 0 (length s.whole) (both_left (nat_lt 0 (length s.whole)) (all_ascii_digits s.whole) parts.0) in
-    let w_small : w < 2 ^ 64 = omega (arith, small) in
+    let w_small : w < 10 ^ 64 = omega (arith, small) in
     ap (λ x. let t : Spelling = record { is_negative = s.is_negative; whole = x; decimals = decimals_of (magnitude s % 10 ^ 6) } in t)
-    (ap decimal whole_is ∙ decimal-digits_value own s.whole (all_from s.whole parts.0) there short.front w_small)
+    (ap decimal whole_is ∙ decimal_again s.whole (own.to s.whole (all_from s.whole parts.0)) there short.front w_small)
     ∙ ap (λ x. let t : Spelling = record { is_negative = s.is_negative; whole = s.whole; decimals = x } in t)
     (ap decimals_of rest_is ∙ decimals_again s.decimals parts.1 short.places short.last)
 
@@ -170,16 +171,12 @@ by_sign false m h = refl
 by_sign true zero h = absurd (h refl refl)
 by_sign true (suc m) h = refl
 
--- a text of the printed form is the text of what it means
-only_text : (text : List ℕ) (units : ℤ) → IsPrintedForm text → reading text ≡ Ok units → text ≡ value_text units
+-- a short text of a number is the one that is printed of it
+pub only_text : (units : ℤ) (text : List ℕ) → unsigned_abs units ≤ 2 ^ 127 → IsShortTextOf units text → text ≡ value_text units
 unfolding value_text
-only_text text units form means =
+only_text units text small form =
     let s : Spelling = form.0 in
-    let g : (nat_lt 6 (decimal_places s) ≡ false) × (nat_lt (10 ^ 13) (magnitude s) ≡ false) × (units ≡ units_of s) =
-    graded_ok _ _ _ units (sym (reads_spelled s text form.1) ∙ means) in
-    let small : magnitude s ≤ 10 ^ 13 = ltb-false (10 ^ 13) (magnitude s) g.1 in
+    let magnitude_is : unsigned_abs (units_of s) ≡ magnitude s = size s.is_negative (magnitude s) in
+    let lt : magnitude s < 10 ^ 64 = omega (arith, small, sym magnitude_is ∙ ap unsigned_abs form.3) in
     form.1.parts
-    ∙ ap text_of (sym (short_printed s form.1.number form.2 small) ∙ sym (by_sign s.is_negative (magnitude s) form.2.minus) ∙ ap spelling_of (sym g.2))
-
-pub one_text : (a b : List ℕ) (units : ℤ) → IsPrintedForm a → IsPrintedForm b → reading a ≡ Ok units → reading b ≡ Ok units → a ≡ b
-one_text a b units fa fb ma mb = only_text a units fa ma ∙ sym (only_text b units fb mb)
+    ∙ ap text_of (sym (short_printed s form.1.number form.2 lt) ∙ sym (by_sign s.is_negative (magnitude s) form.2.minus) ∙ ap spelling_of form.3)

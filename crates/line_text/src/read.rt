@@ -23,8 +23,8 @@ const CAP: u64 = 10_000_001;
 
 /// The number that a text spells, in units; leading zeros are fine.
 ///
-/// The errors are looked for in their order in [`NumErr`]. Takes no memory, and the time of one
-/// look at each byte.
+/// The errors are looked for in their order in [`NumErr`]. Takes no memory, and goes over the text
+/// three times at most: for the point, for what is no digit, and for the number.
 pub fn read_value(text: &str) -> Result<i64, NumErr>
     ensures answer { result ≡ reading text.now }
     ensures empty { (result ≡ Err NumErr.Empty) ↔ (text.now ≡ []) }
