@@ -13,8 +13,8 @@ use Rattle.waveform.specs.Shape.{IsLike}
 use Rattle.waveform.specs.WaveValue.{read}
 use Rattle.acceleration.specs.Exchanged.{Exchanged}
 use Rattle.acceleration.specs.RelaxedWaves.{relaxed_values, relaxed_sample, relaxed_wave}
-use Rattle.acceleration.specs.Outside.{Spot, spots_of_sample, spots_of_wave, first_outside}
-use Rattle.acceleration.proofs.Spots.{first_outside-none, first_outside-some}
+use Rattle.acceleration.specs.Outside.{Location, located_sample, located_wave, first_outside}
+use Rattle.acceleration.proofs.Locations.{first_outside-none, first_outside-some}
 use Rattle.acceleration.proofs.Widths.{no_sample, field_at, time_at}
 
 -- the field that was posted, relaxed, makes sample i of the relaxed wave
@@ -53,7 +53,7 @@ like_all posted i field made wave inside found like = λ k d within.
 -- the first i samples, all in range
 pub record IsFront (factor : ℤ) (place i : ℕ) (e : Exchanged) (wave : List Sample) : Type 0 where
   pub made : wave ≡ take i (relaxed_wave factor e)
-  pub inside : first_outside (spots_of_wave place wave) ≡ None
+  pub inside : first_outside (located_wave place wave) ≡ None
   pub ends : last_time wave ≡ (get_or e.posted (i - 1) no_sample).time
   pub alike : All (λ (s : Sample). All (λ (y : Sample). IsLike s.field y.field) e.posted) wave
 
@@ -71,8 +71,8 @@ time_of factor e i s inside found =
     ∙ get_or-map (relaxed_sample factor e) e.posted i no_sample s inside
     )
 
-spots_push : (place : ℕ) (wave : List Sample) (s : Sample) → spots_of_wave place (wave ++ s ∷ []) ≡ spots_of_wave place wave ++ spots_of_sample place s
-spots_push place wave s = sym (flat_map_more (spots_of_sample place) [] wave s)
+locations_push : (place : ℕ) (wave : List Sample) (s : Sample) → located_wave place (wave ++ s ∷ []) ≡ located_wave place wave ++ located_sample place s
+locations_push place wave s = sym (flat_map_more (located_sample place) [] wave s)
 
 last_time-push : (wave : List Sample) (s : Sample) → last_time (wave ++ s ∷ []) ≡ s.time
 last_time-push wave s =
@@ -83,12 +83,12 @@ last_time-push wave s =
 
 -- the first sample
 pub IsFront-first : (factor : ℤ) (place : ℕ) (e : Exchanged) (s : Sample) (wave : List Sample) → 0 < length e.posted → slice_get (relaxed_wave factor e) 0 ≡ Some s
-    → All (λ (y : Sample). IsLike s.field y.field) e.posted → first_outside (spots_of_sample place s) ≡ None → wave ≡ s ∷ [] → IsFront factor place 1 e wave
+    → All (λ (y : Sample). IsLike s.field y.field) e.posted → first_outside (located_sample place s) ≡ None → wave ≡ s ∷ [] → IsFront factor place 1 e wave
 IsFront-first factor place e s wave some found alike inside is =
     record {
       made = is ∙ sym (front_more factor e 0 s some found);
-      inside = ap (λ (w : List Sample). first_outside (spots_of_wave place w)) (is ∙ refl)
-          ∙ ap first_outside (spots_push place [] s) ∙ inside;
+      inside = ap (λ (w : List Sample). first_outside (located_wave place w)) (is ∙ refl)
+          ∙ ap first_outside (locations_push place [] s) ∙ inside;
       ends = ap last_time is ∙ last_time-push [] s ∙ time_of factor e 0 s some found;
       alike = All-same (λ (x : Sample). All (λ (y : Sample). IsLike x.field y.field) e.posted) wave (s ∷ []) is
           (All-push (λ (x : Sample). All (λ (y : Sample). IsLike x.field y.field) e.posted) [] s (λ k d none. absurd (omega arith)) alike);
@@ -96,15 +96,15 @@ IsFront-first factor place e s wave some found alike inside is =
 
 -- one sample more
 pub IsFront-next : (factor : ℤ) (place i : ℕ) (e : Exchanged) (s : Sample) (wave more : List Sample) → i < length e.posted → slice_get (relaxed_wave factor e) i ≡ Some s
-    → All (λ (y : Sample). IsLike s.field y.field) e.posted → first_outside (spots_of_sample place s) ≡ None → more ≡ wave ++ s ∷ []
+    → All (λ (y : Sample). IsLike s.field y.field) e.posted → first_outside (located_sample place s) ≡ None → more ≡ wave ++ s ∷ []
     → IsFront factor place i e wave → IsFront factor place (i + 1) e more
 IsFront-next factor place i e s wave more some found alike inside is front =
     let back : i ≡ i + 1 - 1 = omega arith in
     record {
       made = is ∙ ap (λ (w : List Sample). w ++ s ∷ []) front.made ∙ sym (front_more factor e i s some found);
-      inside = ap (λ (w : List Sample). first_outside (spots_of_wave place w)) is
-          ∙ ap first_outside (spots_push place wave s)
-          ∙ first_outside-none (spots_of_wave place wave) (spots_of_sample place s) front.inside ∙ inside;
+      inside = ap (λ (w : List Sample). first_outside (located_wave place w)) is
+          ∙ ap first_outside (locations_push place wave s)
+          ∙ first_outside-none (located_wave place wave) (located_sample place s) front.inside ∙ inside;
       ends = ap last_time is ∙ last_time-push wave s ∙ time_of factor e i s some found ∙ ap (λ (n : ℕ). (get_or e.posted n no_sample).time) back;
       alike = All-same (λ (x : Sample). All (λ (y : Sample). IsLike x.field y.field) e.posted) more (wave ++ s ∷ []) is
           (All-push (λ (x : Sample). All (λ (y : Sample). IsLike x.field y.field) e.posted) wave s front.alike alike);
@@ -131,17 +131,17 @@ length-front factor place i e wave inside front =
     ap (λ (w : List Sample). length w) front.made ∙ length-take-le i (relaxed_wave factor e) (rw length-map inside)
 
 -- what is first outside in sample i, with none before it, is so in the whole wave
-pub outside_at : (factor : ℤ) (place i : ℕ) (e : Exchanged) (s : Sample) (wave : List Sample) (spot : Spot) → i < length e.posted → slice_get (relaxed_wave factor e) i ≡ Some s
-    → wave ≡ take i (relaxed_wave factor e) → first_outside (spots_of_wave place wave) ≡ None → first_outside (spots_of_sample place s) ≡ Some spot → first_outside (spots_of_wave place (relaxed_wave factor e)) ≡ Some spot
-outside_at factor place i e s wave spot inside found made before outside =
+pub outside_at : (factor : ℤ) (place i : ℕ) (e : Exchanged) (s : Sample) (wave : List Sample) (location : Location) → i < length e.posted → slice_get (relaxed_wave factor e) i ≡ Some s
+    → wave ≡ take i (relaxed_wave factor e) → first_outside (located_wave place wave) ≡ None → first_outside (located_sample place s) ≡ Some location → first_outside (located_wave place (relaxed_wave factor e)) ≡ Some location
+outside_at factor place i e s wave location inside found made before outside =
     let front_is = ap (λ (w : List Sample). w ++ s ∷ []) made ∙ sym (front_more factor e i s inside found) in
-    let here : first_outside (spots_of_wave place (take (i + 1) (relaxed_wave factor e))) ≡ Some spot =
-    ap (λ (w : List Sample). first_outside (spots_of_wave place w)) (sym front_is)
-    ∙ ap first_outside (spots_push place wave s)
-    ∙ first_outside-none (spots_of_wave place wave) (spots_of_sample place s) before ∙ outside in
-    ap (λ (w : List Sample). first_outside (spots_of_wave place w)) (sym (take-append-drop (i + 1) (relaxed_wave factor e)))
-    ∙ ap first_outside (flat_map-append (spots_of_sample place) (take (i + 1) (relaxed_wave factor e)) (drop (i + 1) (relaxed_wave factor e)))
-    ∙ first_outside-some (spots_of_wave place (take (i + 1) (relaxed_wave factor e))) (spots_of_wave place (drop (i + 1) (relaxed_wave factor e))) spot here
+    let here : first_outside (located_wave place (take (i + 1) (relaxed_wave factor e))) ≡ Some location =
+    ap (λ (w : List Sample). first_outside (located_wave place w)) (sym front_is)
+    ∙ ap first_outside (locations_push place wave s)
+    ∙ first_outside-none (located_wave place wave) (located_sample place s) before ∙ outside in
+    ap (λ (w : List Sample). first_outside (located_wave place w)) (sym (take-append-drop (i + 1) (relaxed_wave factor e)))
+    ∙ ap first_outside (flat_map-append (located_sample place) (take (i + 1) (relaxed_wave factor e)) (drop (i + 1) (relaxed_wave factor e)))
+    ∙ first_outside-some (located_wave place (take (i + 1) (relaxed_wave factor e))) (located_wave place (drop (i + 1) (relaxed_wave factor e))) location here
 
 -- what is sample i
 pub sample_found : (factor : ℤ) (e : Exchanged) (i : ℕ) → i < length e.posted → slice_get (relaxed_wave factor e) i ≡ Some (get_or (relaxed_wave factor e) i no_sample)

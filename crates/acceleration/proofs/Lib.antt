@@ -1,5 +1,5 @@
 pub mod Entries
-pub mod Spots
+pub mod Locations
 pub mod Widths
 pub mod Sums
 pub mod NextFactors
@@ -9,3 +9,5 @@ pub mod Causes
 pub mod WaveLists
 pub mod Iterates
 pub mod RelaxationLaws
+pub mod BestParts
+pub mod FirstOverflows

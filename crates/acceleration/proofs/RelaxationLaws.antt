@@ -1,6 +1,7 @@
 -- What relaxation amounts to: by one, at a fixed point, and by a part.
-use Rattle.std.proofs.Common.{◌≡◌, ℕ, suc, ◌+◌, ◌^◌, ◌≤◌, inl, inr, None, List, [], ◌∷◌, length, get_or, All, ℤ, pos, negsuc, neg_ℤ, ◌+ℤ◌, ◌-ℤ◌, ◌*ℤ◌, unsigned_abs, mul_comm, zero-mul, arith, refl, ap, ◌∙◌}
+use Rattle.std.proofs.Common.{◌≡◌, ℕ, ◌+◌, ◌^◌, ◌≤◌, inl, inr, None, List, [], ◌∷◌, length, get_or, All, ℤ, pos, negsuc, ◌+ℤ◌, ◌-ℤ◌, ◌*ℤ◌, unsigned_abs, arith, refl, ap, ◌∙◌}
 use Rattle.std.specs.List.{enumerate_from, flat_map}
+use Rattle.std.proofs.Math.IntN.{*ℤ_comm, *ℤ-zero}
 use Rattle.std.proofs.lemmas.Int.{ints}
 use Rattle.std.proofs.lemmas.List.Elements.{All-head, All-tail, All-cons, All-nil, All-map}
 use Rattle.std.proofs.lemmas.List.Folds.{map_fixed}
@@ -12,15 +13,9 @@ use Rattle.waveform.specs.Between.{IsBetween}
 use Rattle.waveform.proofs.Lines.{quotient-part, IsValue-between}
 use Rattle.acceleration.specs.Exchanged.{Exchanged}
 use Rattle.acceleration.specs.RelaxedWaves.{relaxed_values, relaxed_sample, relaxed_wave, relaxed_waves}
-use Rattle.acceleration.specs.Outside.{Spot, spots_of_sample, spots_of_wave, spots_of, first_outside}
+use Rattle.acceleration.specs.Outside.{Location, located_sample, located_wave, located, first_outside}
 use Rattle.acceleration.specs.Laws.{IsPart, ReadsAsMany, IsFixedPoint, HasValues, read_beside}
-use Rattle.acceleration.proofs.Spots.{values_inside, first_outside-none, first_outside-nil}
-
-product_comm : (a b : ℤ) → a *ℤ b ≡ b *ℤ a
-product_comm (pos a) (pos b) = ap pos (mul_comm a b)
-product_comm (pos a) (negsuc b) = ap (λ (n : ℕ). neg_ℤ (pos n)) (mul_comm a (suc b))
-product_comm (negsuc a) (pos b) = ap (λ (n : ℕ). neg_ℤ (pos n)) (mul_comm (suc a) b)
-product_comm (negsuc a) (negsuc b) = ap pos (mul_comm (suc a) (suc b))
+use Rattle.acceleration.proofs.Locations.{values_inside, first_outside-none, first_outside-nil}
 
 no_distance : (a : ℤ) → unsigned_abs (a -ℤ a) ≡ 0
 no_distance a = omega (arith, ints)
@@ -28,7 +23,7 @@ no_distance a = omega (arith, ints)
 quotient-one : (a : ℤ) → quotient (pos (10 ^ 6) *ℤ a) (10 ^ 6) ≡ a
 quotient-one a =
     let exact : distance (pos (10 ^ 6) *ℤ a) (10 ^ 6) a ≡ 0 =
-    ap (λ (n : ℤ). unsigned_abs (n -ℤ (a *ℤ pos (10 ^ 6)))) (product_comm (pos (10 ^ 6)) a) ∙ no_distance (a *ℤ pos (10 ^ 6)) in
+    ap (λ (n : ℤ). unsigned_abs (n -ℤ (a *ℤ pos (10 ^ 6)))) (*ℤ_comm (pos (10 ^ 6)) a) ∙ no_distance (a *ℤ pos (10 ^ 6)) in
     only_quotient (pos (10 ^ 6) *ℤ a) a (quotient (pos (10 ^ 6) *ℤ a) (10 ^ 6)) (10 ^ 6) (omega arith)
     (record { near = omega (arith, exact); even_midway = λ midway. absurd (omega (arith, exact, midway)) })
     (quotient-IsRoundedQuotient (pos (10 ^ 6) *ℤ a) (10 ^ 6) (omega arith))
@@ -40,20 +35,16 @@ quotient-zero : quotient (pos 0) (10 ^ 6) ≡ pos 0
 unfolding quotient nearest_of
 quotient-zero = refl
 
-product-zero : (a : ℤ) → a *ℤ pos 0 ≡ pos 0
-product-zero (pos n) = ap pos (mul_comm n 0 ∙ zero-mul n)
-product-zero (negsuc n) = ap (λ (k : ℕ). neg_ℤ (pos k)) (mul_comm (suc n) 0 ∙ zero-mul (suc n))
-
 pub relaxed-same : (x factor : ℤ) → relaxed x x factor ≡ x
 relaxed-same x factor =
     let none : x -ℤ x ≡ pos 0 = omega (arith, ints) in
     let still : quotient (factor *ℤ (x -ℤ x)) (10 ^ 6) ≡ pos 0 =
-    ap (λ (n : ℤ). quotient (factor *ℤ n) (10 ^ 6)) none ∙ ap (λ (n : ℤ). quotient n (10 ^ 6)) (product-zero factor) ∙ quotient-zero in
+    ap (λ (n : ℤ). quotient (factor *ℤ n) (10 ^ 6)) none ∙ ap (λ (n : ℤ). quotient n (10 ^ 6)) (*ℤ-zero factor) ∙ quotient-zero in
     ap (λ (n : ℤ). x +ℤ n) still ∙ omega (arith, ints)
 
 by_part : (x y : ℤ) (m : ℕ) → m ≤ 10 ^ 6 → IsBetween x y (relaxed x y (pos m))
 by_part x y m most =
-    rw (product_comm (pos m) (y -ℤ x)) (
+    rw (*ℤ_comm (pos m) (y -ℤ x)) (
     elim (quotient-part (y -ℤ x) m (10 ^ 6) (omega arith) most) [
       | inl w ↦ inl (omega (arith, ints, w.0), omega (arith, ints, w.1))
       | inr w ↦ inr (omega (arith, ints, w.0), omega (arith, ints, w.1))
@@ -106,32 +97,32 @@ relaxed_wave-same e factor fixed =
     ap (λ (xs : List ℤ). with_values y (relaxed_values factor xs y.field.values)) (fixed k d inside) ∙ ap (with_values y) (relaxed_values-same factor y.field.values))
 
 -- where no part has a value out of range, all of it has none
-flat_none : {X : Type 0} (f : X → List (Spot × ℤ)) (xs : List X) → All (λ (x : X). first_outside (f x) ≡ None) xs → first_outside (flat_map f xs) ≡ None
+flat_none : {X : Type 0} (f : X → List (Location × ℤ)) (xs : List X) → All (λ (x : X). first_outside (f x) ≡ None) xs → first_outside (flat_map f xs) ≡ None
 flat_none f [] none = first_outside-nil
 flat_none {X} f (x ∷ xs) none =
     first_outside-none (f x) (flat_map f xs) (All-head (λ (y : X). first_outside (f y) ≡ None) x xs none)
     ∙ flat_none f xs (All-tail (λ (y : X). first_outside (f y) ≡ None) x xs none)
 
-wave_fits : (factor : ℤ) (place : ℕ) (e : Exchanged) → IsPart factor → HasValues e → first_outside (spots_of_wave place (relaxed_wave factor e)) ≡ None
+wave_fits : (factor : ℤ) (place : ℕ) (e : Exchanged) → IsPart factor → HasValues e → first_outside (located_wave place (relaxed_wave factor e)) ≡ None
 wave_fits factor place e part values =
-    flat_none (spots_of_sample place) (relaxed_wave factor e)
-    (All-map (λ (s : Sample). first_outside (spots_of_sample place s) ≡ None) (relaxed_sample factor e) e.posted
+    flat_none (located_sample place) (relaxed_wave factor e)
+    (All-map (λ (s : Sample). first_outside (located_sample place s) ≡ None) (relaxed_sample factor e) e.posted
     (λ k d inside. let y = get_or e.posted k d in
     values_inside place y.time (relaxed_values factor (read_beside e y) y.field.values)
     (relaxed_values-All factor (read_beside e y) y.field.values part (values.taken k d inside) (values.posted k d inside))))
 
-numbered : (n : ℕ) (waves : List (List Sample)) → All (λ (w : List Sample). (place : ℕ) → first_outside (spots_of_wave place w) ≡ None) waves
-    → All (λ (w : ℕ × List Sample). first_outside (spots_of_wave w.0 w.1) ≡ None) (enumerate_from n waves)
-numbered n [] none = All-nil (λ (w : ℕ × List Sample). first_outside (spots_of_wave w.0 w.1) ≡ None)
+numbered : (n : ℕ) (waves : List (List Sample)) → All (λ (w : List Sample). (place : ℕ) → first_outside (located_wave place w) ≡ None) waves
+    → All (λ (w : ℕ × List Sample). first_outside (located_wave w.0 w.1) ≡ None) (enumerate_from n waves)
+numbered n [] none = All-nil (λ (w : ℕ × List Sample). first_outside (located_wave w.0 w.1) ≡ None)
 numbered n (w ∷ waves) none =
-    All-cons (λ (v : ℕ × List Sample). first_outside (spots_of_wave v.0 v.1) ≡ None) (n, w) (enumerate_from (n + 1) waves)
-    (All-head (λ (v : List Sample). (place : ℕ) → first_outside (spots_of_wave place v) ≡ None) w waves none n)
-    (numbered (n + 1) waves (All-tail (λ (v : List Sample). (place : ℕ) → first_outside (spots_of_wave place v) ≡ None) w waves none))
+    All-cons (λ (v : ℕ × List Sample). first_outside (located_wave v.0 v.1) ≡ None) (n, w) (enumerate_from (n + 1) waves)
+    (All-head (λ (v : List Sample). (place : ℕ) → first_outside (located_wave place v) ≡ None) w waves none n)
+    (numbered (n + 1) waves (All-tail (λ (v : List Sample). (place : ℕ) → first_outside (located_wave place v) ≡ None) w waves none))
 
 -- by a part of the way from Values to Values none is out of range
-pub part_fits : (exchanges : List Exchanged) (factor : ℤ) → IsPart factor → All HasValues exchanges → first_outside (spots_of (relaxed_waves factor exchanges)) ≡ None
+pub part_fits : (exchanges : List Exchanged) (factor : ℤ) → IsPart factor → All HasValues exchanges → first_outside (located (relaxed_waves factor exchanges)) ≡ None
 part_fits exchanges factor part values =
-    flat_none (λ (w : ℕ × List Sample). spots_of_wave w.0 w.1) (enumerate_from 0 (relaxed_waves factor exchanges))
+    flat_none (λ (w : ℕ × List Sample). located_wave w.0 w.1) (enumerate_from 0 (relaxed_waves factor exchanges))
     (numbered 0 (relaxed_waves factor exchanges)
-    (All-map (λ (w : List Sample). (place : ℕ) → first_outside (spots_of_wave place w) ≡ None) (relaxed_wave factor) exchanges
+    (All-map (λ (w : List Sample). (place : ℕ) → first_outside (located_wave place w) ≡ None) (relaxed_wave factor) exchanges
     (λ k d inside. λ place. wave_fits factor place (get_or exchanges k d) part (values k d inside))))

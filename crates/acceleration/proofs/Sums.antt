@@ -1,9 +1,10 @@
--- How large sums of products are, and that a sum of squares is no less than zero.
-use Rattle.std.proofs.Common.{◌≡◌, ℕ, ◌+◌, ◌*◌, ◌^◌, ◌≤◌, List, [], ◌∷◌, length, fold, All, ℤ, pos, negsuc, ◌+ℤ◌, ◌*ℤ◌, unsigned_abs, mul-le-mul, arith, refl, ap, sym, subst}
+-- How large sums of products are, pair by pair, and that a sum of squares is a natural number.
+use Rattle.std.proofs.Common.{◌≡◌, ℕ, ◌+◌, ◌*◌, ◌^◌, ◌≤◌, List, [], ◌∷◌, length, fold, All, ℤ, pos, negsuc, ◌+ℤ◌, ◌*ℤ◌, unsigned_abs, mul-le-mul, sum_by, suc, arith, rules, refl, ap, sym, ◌∙◌}
 use Rattle.std.specs.List.{zip}
 use Rattle.std.proofs.lemmas.Int.{ints, unsigned_abs-mul}
+use Rattle.std.proofs.lemmas.List.Sums.{sum_by-cons}
 use Rattle.std.proofs.lemmas.List.Elements.{All-head, All-tail}
-use Rattle.fixed_num.specs.Norm.{product_sum}
+use Rattle.fixed_num.specs.Norm.{square, product_sum}
 
 abbrev sum_from : ℤ → List ℤ → List ℤ → ℤ
 sum_from start a b = fold (λ (so_far : ℤ) (pair : ℤ × ℤ). so_far +ℤ pair.0 *ℤ pair.1) start (zip a b)
@@ -40,17 +41,31 @@ square_sum-le a few small =
     let bound = sum_from-le (4 * 10 ^ 13) (4 * 10 ^ 13) (16 * 10 ^ 26) (pos 0) a a (products_within (4 * 10 ^ 13) (4 * 10 ^ 13)) small small in
     omega (arith, bound, few)
 
-square-natural : (x : ℤ) → x *ℤ x ≡ pos (unsigned_abs x * unsigned_abs x)
-square-natural (pos n) = refl
-square-natural (negsuc n) = refl
+sum_from-is : (start : ℤ) (a b : List ℤ) → sum_from start a b ≡ start +ℤ product_sum a b
+sum_from-is start [] b = omega (arith, ints)
+sum_from-is start (x ∷ a) [] = omega (arith, ints)
+sum_from-is start (x ∷ a) (y ∷ b) =
+    let whole = sum_from-is (start +ℤ x *ℤ y) a b in
+    let first = sum_from-is (pos 0 +ℤ x *ℤ y) a b in
+    omega (arith, ints, whole, first)
 
-squares_from-natural : (start : ℕ) (a : List ℤ) → pos (unsigned_abs (sum_from (pos start) a a)) ≡ sum_from (pos start) a a
-squares_from-natural start [] = refl
-squares_from-natural start (x ∷ a) =
-    subst (λ (first : ℤ). pos (unsigned_abs (sum_from first a a)) ≡ sum_from first a a)
-    (ap (λ (product : ℤ). pos start +ℤ product) (sym (square-natural x)))
-    (squares_from-natural (start + unsigned_abs x * unsigned_abs x) a)
+pub product_sum-cons : (x y : ℤ) (a b : List ℤ) → product_sum (x ∷ a) (y ∷ b) ≡ x *ℤ y +ℤ product_sum a b
+product_sum-cons x y a b = let all = sum_from-is (pos 0 +ℤ x *ℤ y) a b in omega (arith, ints, all)
+
+pub square-is : (x : ℤ) → pos (square x) ≡ x *ℤ x
+square-is (pos n) = let one : n ^ 2 ≡ n * n = search rules in ap pos one
+square-is (negsuc n) = let one : suc n ^ 2 ≡ suc n * suc n = search rules in ap pos one
+
+-- a sum of squares is the sum of products of a list with itself
+pub squares-are : (a : List ℤ) → pos (sum_by square a) ≡ product_sum a a
+squares-are [] = refl
+squares-are (x ∷ a) =
+    let all = ap pos (sum_by-cons square x a) in
+    let here = square-is x in
+    let rest = squares-are a in
+    let split = product_sum-cons x x a a in
+    omega (arith, ints, all, here, rest, split)
 
 -- a sum of squares is a natural number
 pub square_sum-natural : (a : List ℤ) → pos (unsigned_abs (product_sum a a)) ≡ product_sum a a
-square_sum-natural a = squares_from-natural 0 a
+square_sum-natural a = ap (λ (sum : ℤ). pos (unsigned_abs sum)) (sym (squares-are a)) ∙ squares-are a

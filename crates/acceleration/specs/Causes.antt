@@ -2,9 +2,9 @@
 use Rattle.std.specs.Prelude.{◌≡◌, Option, Some, ⊤}
 use Rattle.acceleration.specs.declared.error.AccErr.{AccErr}
 use Rattle.acceleration.specs.declared.error.AccErr.TheVariants.{Overflow, Memory}
-use Rattle.acceleration.specs.Outside.{Spot}
+use Rattle.acceleration.specs.Outside.{Location}
 
--- the error tells the spot that is first
-abbrev pub Tells : Option Spot → AccErr → Type 0
+-- the error tells the location that is first
+abbrev pub Tells : Option Location → AccErr → Type 0
 Tells first (Overflow place time component) = first ≡ Some (record { place = place; time = time; component = component })
 Tells first Memory = ⊤

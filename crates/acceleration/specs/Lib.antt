@@ -6,5 +6,7 @@ pub mod Factors
 pub mod RelaxedWaves
 pub mod Outside
 pub mod RelaxedIterate
+pub mod Overflows
 pub mod Causes
 pub mod Laws
+pub mod BestPart

@@ -6,22 +6,26 @@ use Rattle.acceleration.specs.Residual.{residual}
 use Rattle.acceleration.specs.RelaxerState.{RelaxerState}
 use Rattle.acceleration.specs.Factors.{factor_by, memory_by}
 use Rattle.acceleration.specs.RelaxedWaves.{relaxed_waves}
-use Rattle.acceleration.specs.Outside.{Spot, spots_of, first_outside}
+use Rattle.acceleration.specs.Outside.{Location, located, first_outside}
 
 -- the relaxed waves, and what the relaxer keeps after them
 pub record Iterate : Type 0 where
   pub waves : List (List Sample)
   pub next : RelaxerState
 
+-- the relaxed waves of an iteration, by its factor
+abbrev pub waves_of : RelaxerState → List Exchanged → List (List Sample)
+waves_of state exchanges = relaxed_waves (factor_by state.method state.memory (residual exchanges)) exchanges
+
 -- undefined where a value is out of range
-abbrev pub unless_outside : Option Spot → Iterate → Result Iterate Spot
-unless_outside (Some spot) iterate = Err spot
+abbrev pub unless_outside : Option Location → Iterate → Result Iterate Location
+unless_outside (Some location) iterate = Err location
 unless_outside None iterate = Ok iterate
 
--- the waves are relaxed by the factor of the iteration
-unfoldable pub relaxed_iterate : RelaxerState → List Exchanged → Result Iterate Spot
+-- the relaxed iterate after a state
+unfoldable pub relaxed_iterate : RelaxerState → List Exchanged → Result Iterate Location
 relaxed_iterate state exchanges =
     let r = residual exchanges in
-    let waves = relaxed_waves (factor_by state.method state.memory r) exchanges in
-    unless_outside (first_outside (spots_of waves))
+    let waves = waves_of state exchanges in
+    unless_outside (first_outside (located waves))
     (record { waves = waves; next = record { method = state.method; memory = memory_by state.method state.memory r } })

@@ -104,50 +104,53 @@ fn relax_one(
     Ok(units_of(&waves, 0, 0, 0))
 }
 
-#[test]
-fn aitken_starts_anew_in_each_window(rt: HostRuntime) -> Result<(), Fail> {
-    let alloc = rt.alloc();
-    let mut relaxer = aitken(alloc, 500_000)?;
-    for _ in 0..2 {
-        assert!(rt; relax_one(alloc, &mut relaxer, 0, 500_000) == Ok(Some(250_000)));
-        assert!(rt; relax_one(alloc, &mut relaxer, 250_000, 625_000) == Ok(Some(1_000_000)));
+/// The same, the first of a window where it says so.
+fn relax_next(
+    alloc: Global,
+    relaxer: &mut Relaxer,
+    anew: bool,
+    read: i128,
+    posted: i128,
+) -> Result<Option<i64>, AccErr>
+    requires { RemembersAsMany relaxer.old 2 }
+    ensures { RemembersAsMany relaxer.new 2 }
+{
+    if anew {
         relaxer.restart();
+        return relax_one(alloc, relaxer, read, posted);
     }
-    Ok(())
+    relax_one(alloc, relaxer, read, posted)
 }
 
 #[test]
-fn an_overflow_is_as_if_it_had_not_been(rt: HostRuntime) -> Result<(), Fail> {
+fn aitken_looks_back_in_its_window(rt: HostRuntime) -> Result<(), Fail> {
     let alloc = rt.alloc();
     let mut relaxer = aitken(alloc, 500_000)?;
-    let overflow = AccErr::Overflow {
+    let overflow = Err(AccErr::Overflow {
         place: 0,
         time: 10,
         component: 0,
-    };
-    assert!(rt; relax_one(alloc, &mut relaxer, 0, 20_000_000_000) == Ok(Some(10_000_000_000)));
-    for _ in 0..2 {
-        assert!(rt;
-            relax_one(alloc, &mut relaxer, 10_000_000_000, 29_990_000_000) == Err(overflow)
-        );
-    }
-    assert!(rt; relax_one(alloc, &mut relaxer, 0, 10_000_000_000) == Ok(Some(10_000_000_000)));
-    Ok(())
-}
-
-#[test]
-fn factors_stay_and_have_their_limits(rt: HostRuntime) -> Result<(), Fail> {
-    let alloc = rt.alloc();
-    let cases = [
-        (1_000_000_000, 500_000_000),
-        (999_999_999, 999_999_999_000),
-        (1_000_000_001, -1_000_000_001_000),
+    });
+    let steps = [
+        (true, 0, 500_000, Ok(Some(250_000))),
+        (false, 250_000, 625_000, Ok(Some(1_000_000))),
+        // The same in the next window, and the factor stays where the residual does.
+        (true, 0, 1_000_000_000, Ok(Some(500_000_000))),
+        (false, 0, 1_000_000_000, Ok(Some(500_000_000))),
+        // It has its limits.
+        (true, 0, 1_000_000_000, Ok(Some(500_000_000))),
+        (false, 0, 999_999_999, Ok(Some(999_999_999_000))),
+        (true, 0, 1_000_000_000, Ok(Some(500_000_000))),
+        (false, 0, 1_000_000_001, Ok(Some(-1_000_000_001_000))),
+        // An overflow is as if it had not been.
+        (true, 0, 20_000_000_000, Ok(Some(10_000_000_000))),
+        (false, 10_000_000_000, 29_990_000_000, overflow),
+        (false, 10_000_000_000, 29_990_000_000, overflow),
+        (false, 0, 10_000_000_000, Ok(Some(10_000_000_000))),
     ];
-    for (posted, relaxed) in cases {
-        let mut relaxer = aitken(alloc, 500_000)?;
-        assert!(rt; relax_one(alloc, &mut relaxer, 0, 1_000_000_000) == Ok(Some(500_000_000)));
+    for (anew, read, posted, relaxed) in steps {
         assert!(rt;
-            relax_one(alloc, &mut relaxer, 0, posted) == Ok(Some(relaxed)),
+            relax_next(alloc, &mut relaxer, anew, read, posted) == relaxed,
             "at {posted}"
         );
     }
@@ -176,44 +179,31 @@ fn constant_factors_round_to_even(rt: HostRuntime) -> Result<(), Fail> {
     Ok(())
 }
 
-/// An iteration on two exchanges, read by degree 0 and by degree 1 on the line from 0 at time 0 to one
-/// at time 10.
+/// An iteration by a constant factor on two exchanges, read by degree 0 and by degree 1 on the line from
+/// 0 at time 0 to one at time 10, and posted at times 5 and 10.
 fn relax_two(
     alloc: Global,
-    relaxer: &mut Relaxer,
-    first: Wave,
-    second: Wave,
-) -> Result<Vec<Wave>, AccErr>
-    requires memory { RemembersAsMany relaxer.old 4 }
-    requires first_width { width first ≡ 2 }
-    requires second_width { width second ≡ 2 }
-    requires first_components { All (λ s. s.field.components ≡ 1) first }
-    requires first_len { All (λ s. length s.field.values ≡ 2) first }
-    requires first_after { All (λ s. 5 ≤ s.time) first }
-    requires first_before { All (λ s. s.time ≤ 10) first }
-    requires second_components { All (λ s. s.field.components ≡ 1) second }
-    requires second_len { All (λ s. length s.field.values ≡ 2) second }
-    requires second_after { All (λ s. 5 ≤ s.time) second }
-    requires second_before { All (λ s. s.time ≤ 10) second }
-    ensures two { IfOk result (λ waves. length waves.items ≡ 2) }
-    ensures memory { RemembersAsMany relaxer.new 4 }
-{
+    factor: i128,
+    first: [[i128; 2]; 2],
+    second: [[i128; 2]; 2],
+) -> Result<Vec<Wave>, AccErr> {
+    let mut relaxer = constant(alloc, factor)?;
     let read = [
         double(alloc, 0, [0, 0], [1_000_000, 0])?,
         double(alloc, 0, [0, 0], [1_000_000, 0])?,
     ];
-    relaxer.relax_waves(&[0, 1], &read, &[first, second])
+    let posted = [
+        double(alloc, 5, first[0], first[1])?,
+        double(alloc, 5, second[0], second[1])?,
+    ];
+    relaxer.relax_waves(&[0, 1], &read, &posted)
 }
 
 #[test]
 fn each_sample_is_relaxed_from_what_is_read_at_its_time(rt: HostRuntime) -> Result<(), Fail> {
-    let alloc = rt.alloc();
-    let mut relaxer = constant(alloc, 500_000)?;
-    let first = double(alloc, 5, [3, 8], [2_000_000, 0])?;
-    let second = double(alloc, 5, [500_003, 8], [1_000_001, 0])?;
-    let Ok(waves) = relax_two(alloc, &mut relaxer, first, second) else {
-        return Err(Fail::from(Memory));
-    };
+    let first = [[3, 8], [2_000_000, 0]];
+    let second = [[500_003, 8], [1_000_001, 0]];
+    let waves = relax_two(rt.alloc(), 500_000, first, second)?;
     let cases = [
         (0, 0, 0, 500_002),
         (0, 0, 1, 4),
@@ -231,8 +221,7 @@ fn each_sample_is_relaxed_from_what_is_read_at_its_time(rt: HostRuntime) -> Resu
 }
 
 #[test]
-fn the_first_value_out_of_range_is_told(rt: HostRuntime) -> Result<(), Fail> {
-    let alloc = rt.alloc();
+fn the_first_value_out_of_range_is_told(rt: HostRuntime) {
     let large = 1_000_000_000_000;
     let cases = [
         ([[0, 0], [0, large]], [[large, 0], [0, 0]], (0, 10, 1)),
@@ -244,16 +233,12 @@ fn the_first_value_out_of_range_is_told(rt: HostRuntime) -> Result<(), Fail> {
         ),
     ];
     for (first, second, (place, time, component)) in cases {
-        let mut relaxer = constant(alloc, 1_000_000_000)?;
-        let first = double(alloc, 5, first[0], first[1])?;
-        let second = double(alloc, 5, second[0], second[1])?;
-        let told = relax_two(alloc, &mut relaxer, first, second);
+        let told = relax_two(rt.alloc(), 1_000_000_000, first, second).err();
         let overflow = AccErr::Overflow {
             place,
             time,
             component,
         };
-        assert!(rt; told.err() == Some(overflow), "at {place}");
+        assert!(rt; told == Some(overflow), "at {place}");
     }
-    Ok(())
 }

@@ -1,7 +1,7 @@
 ghost use Rattle.std.specs.Prelude.{◌≡◌, None, ◌≤◌, length, All, IfOk, OnOk, IfErr};
 ghost use Rattle.fixed_num.specs.Numbers.{IsValue};
 ghost use Rattle.acceleration.specs.RelaxedWaves.{relaxed_values};
-ghost use Rattle.acceleration.specs.Outside.{first_outside, spots_of_values};
+ghost use Rattle.acceleration.specs.Outside.{first_outside, located_values};
 ghost use Rattle.acceleration.specs.Causes.{Tells};
 
 use crate::error::AccErr;
@@ -33,10 +33,10 @@ pub(crate) fn relaxed_values(
     ensures values { IfOk result (λ values. values.items
         ≡ relaxed_values step.now.factor read.now posted.now) }
     ensures inside { OnOk result (first_outside
-        (spots_of_values step.now.place time (relaxed_values step.now.factor read.now posted.now))
+        (located_values step.now.place time (relaxed_values step.now.factor read.now posted.now))
         ≡ None) }
     ensures outside { IfErr result (Tells (first_outside
-        (spots_of_values step.now.place time (relaxed_values step.now.factor read.now posted.now)))) }
+        (located_values step.now.place time (relaxed_values step.now.factor read.now posted.now)))) }
 {
     let mut values = Vec::with_capacity(alloc, posted.len())?;
     for i in 0..posted.len() {

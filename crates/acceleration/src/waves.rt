@@ -7,7 +7,7 @@ ghost use Rattle.waveform.specs.declared.wave.TheConstants.{MOST_SAMPLES};
 ghost use Rattle.acceleration.specs.Exchanged.{exchange_of, exchanged, CanRelax};
 ghost use Rattle.acceleration.specs.Residual.{width};
 ghost use Rattle.acceleration.specs.RelaxedWaves.{relaxed_values, relaxed_wave, relaxed_waves};
-ghost use Rattle.acceleration.specs.Outside.{first_outside, spots_of, spots_of_wave, spots_of_sample, spots_of_values};
+ghost use Rattle.acceleration.specs.Outside.{first_outside, located, located_wave, located_sample, located_values};
 ghost use Rattle.acceleration.specs.Causes.{Tells};
 
 use crate::error::AccErr;
@@ -33,9 +33,9 @@ pub(crate) fn relaxed_waves(
     ensures waves { IfOk result (λ waves. waves.items
         ≡ relaxed_waves factor (exchanged degrees.now read.now posted.now)) }
     ensures inside { OnOk result (first_outside
-        (spots_of (relaxed_waves factor (exchanged degrees.now read.now posted.now))) ≡ None) }
+        (located (relaxed_waves factor (exchanged degrees.now read.now posted.now))) ≡ None) }
     ensures outside { IfErr result (Tells (first_outside
-        (spots_of (relaxed_waves factor (exchanged degrees.now read.now posted.now))))) }
+        (located (relaxed_waves factor (exchanged degrees.now read.now posted.now))))) }
 {
     let mut waves = Vec::with_capacity(alloc, posted.len())?;
     for i in 0..posted.len() {
@@ -55,9 +55,9 @@ fn relaxed_wave(alloc: Global, step: &Step, read: &Wave, posted: &Wave) -> Resul
     requires few { width posted.now ≤ 200000 }
     ensures wave { IfOk result (λ wave. wave
         ≡ relaxed_wave step.now.factor (exchange_of step.now.degree read.now posted.now)) }
-    ensures inside { OnOk result (first_outside (spots_of_wave step.now.place
+    ensures inside { OnOk result (first_outside (located_wave step.now.place
         (relaxed_wave step.now.factor (exchange_of step.now.degree read.now posted.now))) ≡ None) }
-    ensures outside { IfErr result (Tells (first_outside (spots_of_wave step.now.place
+    ensures outside { IfErr result (Tells (first_outside (located_wave step.now.place
         (relaxed_wave step.now.factor (exchange_of step.now.degree read.now posted.now))))) }
 {
     let count = posted.len();
@@ -88,10 +88,10 @@ fn relaxed_sample(
     ensures sample { IfOk result (λ sample. slice_get (relaxed_wave step.now.factor
         (exchange_of step.now.degree read.now posted.now)) i ≡ Some sample) }
     ensures alike { IfOk result (λ sample. All (λ y. IsLike sample.field y.field) posted.now) }
-    ensures inside { IfOk result (λ sample. first_outside (spots_of_sample step.now.place sample) ≡ None) }
+    ensures inside { IfOk result (λ sample. first_outside (located_sample step.now.place sample) ≡ None) }
     ensures outside { (sample : Sample) → slice_get (relaxed_wave step.now.factor
         (exchange_of step.now.degree read.now posted.now)) i ≡ Some sample
-        → IfErr result (Tells (first_outside (spots_of_sample step.now.place sample))) }
+        → IfErr result (Tells (first_outside (located_sample step.now.place sample))) }
 {
     let time = posted.time(i);
     let field = relaxed_field(alloc, step, read, time, posted.field(i), room)?;
@@ -115,9 +115,9 @@ fn relaxed_field(
     ensures alike { IfOk result (λ field. IsLike field posted.now) }
     ensures values { IfOk result (λ field. field.values
         ≡ relaxed_values step.now.factor (read_values read.now step.now.degree time) posted.now.values) }
-    ensures inside { OnOk result (first_outside (spots_of_values step.now.place time
+    ensures inside { OnOk result (first_outside (located_values step.now.place time
         (relaxed_values step.now.factor (read_values read.now step.now.degree time) posted.now.values)) ≡ None) }
-    ensures outside { IfErr result (Tells (first_outside (spots_of_values step.now.place time
+    ensures outside { IfErr result (Tells (first_outside (located_values step.now.place time
         (relaxed_values step.now.factor (read_values read.now step.now.degree time) posted.now.values)))) }
 {
     read.read_at(step.degree, time, room);

@@ -1,4 +1,4 @@
-mod Changes
+mod ChangeSquares
 mod NoChange
 mod Rows
 mod Scans

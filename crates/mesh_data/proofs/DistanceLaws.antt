@@ -4,7 +4,7 @@ use Rattle.std.specs.List.{zip}
 use Rattle.std.proofs.lemmas.Nat.{mul-le}
 use Rattle.std.proofs.lemmas.Int.{ints}
 use Rattle.std.proofs.lemmas.List.Sums.{sum_by-cons}
-use Rattle.mesh_data.specs.Distances.{square_distance, square_of_difference}
+use Rattle.fixed_num.specs.Norm.{square_distance, square_of_difference}
 
 turned : (x y : ℤ) → square_of_difference (x, y) ≡ square_of_difference (y, x)
 turned x y = let same : unsigned_abs (x -ℤ y) ≡ unsigned_abs (y -ℤ x) = omega (arith, ints) in ap (λ n. n ^ 2) same

@@ -1,2 +1,1 @@
 mod DistanceLaws
-mod PairSums

@@ -1,5 +1,4 @@
 pub mod AnyMeshes
-pub mod Distances
 pub mod Meshes
 pub mod Points
 pub mod Refusals

@@ -1,6 +1,7 @@
 -- Meshes. The coupling documentation has a mesh as the list of its vertices' coordinates; the greatest number of vertices is the project's own.
 use Rattle.std.specs.Prelude.{ℕ, ◌^◌, ◌<◌, ◌≤◌, ℤ, List, All, length}
-use Rattle.mesh_data.specs.Points.{IsCoordinate, IsPoint}
+use Rattle.fixed_num.specs.Numbers.{IsCoordinate}
+use Rattle.mesh_data.specs.Points.{IsPoint}
 
 -- a mesh is a list of at most 10,000 points; a vertex is its place in the list, from 0
 pub record IsMesh (dimensions : ℕ) (mesh : List (List ℤ)) : Type 0 where

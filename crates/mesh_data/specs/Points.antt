@@ -1,9 +1,6 @@
--- Coordinates and points. The coupling documentation has vertices in two or three dimensions; whole units and their range are the project's own.
-use Rattle.std.specs.Prelude.{◌≡◌, ℕ, ◌^◌, ◌≤◌, ℤ, List, All, length, unsigned_abs}
-
--- a coordinate is a whole number of units within 10^12
-abbrev pub IsCoordinate : ℤ → Type 0
-IsCoordinate units = unsigned_abs units ≤ 10 ^ 12
+-- Points. The coupling documentation has vertices in two or three dimensions; whole units and their range are the project's own.
+use Rattle.std.specs.Prelude.{◌≡◌, ℕ, ◌≤◌, ℤ, List, All, length}
+use Rattle.fixed_num.specs.Numbers.{IsCoordinate}
 
 -- space has from one to three dimensions
 abbrev pub IsDimension : ℕ → Type 0

@@ -1,6 +1,6 @@
 -- Why a mesh refuses a vertex. The project's own.
 use Rattle.std.specs.Prelude.{◌≡◌, ◌^◌, ℤ, List, All, length}
-use Rattle.mesh_data.specs.Points.{IsCoordinate}
+use Rattle.fixed_num.specs.Numbers.{IsCoordinate}
 use Rattle.mesh_data.specs.Meshes.{TakesVertex}
 use Rattle.mesh_data.specs.declared.mesh.MeshErr.{MeshErr}
 use Rattle.mesh_data.specs.declared.mesh.MeshErr.TheVariants.{BadPoint, TooMany, Memory}

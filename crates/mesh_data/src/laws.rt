@@ -1,7 +1,7 @@
 //! What is true of the definitions alone.
 
 ghost use Rattle.std.specs.Prelude.{◌≡◌, ℤ, List, length};
-ghost use Rattle.mesh_data.specs.Distances.{square_distance};
+ghost use Rattle.fixed_num.specs.Norm.{square_distance};
 
 /// Between points of one space the square distance is the same both ways, and zero between equal
 /// points and no others.

@@ -1,5 +1,6 @@
 ghost use Rattle.std.specs.Prelude.{◌≡◌, ◌<◌, ◌^◌, ◌↔◌, All, Err, List, ℤ, [], ◌∷◌, ◌++◌, length, slice_get, Some, IfOk, IfErr, OnOk, OnErr};
-ghost use Rattle.mesh_data.specs.Points.{IsCoordinate, IsDimension};
+ghost use Rattle.fixed_num.specs.Numbers.{IsCoordinate};
+ghost use Rattle.mesh_data.specs.Points.{IsDimension};
 ghost use Rattle.mesh_data.specs.Meshes.{IsMesh, TakesVertex};
 ghost use Rattle.mesh_data.specs.Refusals.{IsCauseOf};
 ghost use Rattle.mesh_data.specs.declared.mesh.MeshErr.TheVariants.{Memory as NoMemory};

@@ -1,5 +1,6 @@
 ghost use Rattle.std.specs.Prelude.{◌≡◌, All, IfSome, IsSome, IsTrue, ◌↔◌};
-ghost use Rattle.mesh_data.specs.Points.{IsCoordinate, IsDimension, IsPoint};
+ghost use Rattle.fixed_num.specs.Numbers.{IsCoordinate};
+ghost use Rattle.mesh_data.specs.Points.{IsDimension, IsPoint};
 
 use std::marker::Model;
 

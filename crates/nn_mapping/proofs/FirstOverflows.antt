@@ -1,18 +1,19 @@
 -- Where a mapped field is undefined, and where it is not.
-use Rattle.std.proofs.Common.{◌≡◌, ℕ, ◌+◌, ◌*◌, ◌/◌, ◌%◌, ◌^◌, ◌<◌, Bool, true, false, not, cond, leb, Option, None, Some, Result, Ok, Err, List, ℤ, unsigned_abs, length, get_or, refl, sym, subst, ap, ◌∙◌, inl, inr, arith}
+use Rattle.std.proofs.Common.{◌≡◌, ℕ, ◌+◌, ◌*◌, ◌/◌, ◌%◌, ◌<◌, Bool, true, false, not, cond, Option, None, Some, Result, Ok, Err, List, ℤ, length, get_or, refl, sym, subst, ap, ◌∙◌, inl, inr, arith}
 use Rattle.std.specs.List.{find, position_or_len}
 use Rattle.std.specs.Option.{option_map_or}
-use Rattle.std.proofs.lemmas.Bool.{cases_lt, leb-true, le-leb}
+use Rattle.std.proofs.lemmas.Bool.{cases_lt}
 use Rattle.std.proofs.lemmas.List.Folds.{find_at}
 use Rattle.std.proofs.lemmas.List.Sums.{passes_at_first, fails_before_first}
 use Rattle.std.proofs.lemmas.Nat.{div-add-mod', div_below, mod_below, row_fits}
 use Rattle.std.proofs.lemmas.Option.{slice_get-get_or, slice_get_past}
-use Rattle.fixed_num.specs.Numbers.{IsValue}
+use Rattle.fixed_num.specs.Numbers.{IsValue, is_value}
+use Rattle.fixed_num.proofs.ValueTests.{value_from_true, is_value-true}
 use Rattle.waveform.specs.declared.field.Field.{Field}
 use Rattle.nn_mapping.specs.Mapping.{Mapping}
 use Rattle.nn_mapping.specs.MappedField.{places, mapped_component, mapped_values, overflow_of, mapped_field}
 use Rattle.nn_mapping.specs.Overflows.{ComesBefore, IsFirstOverflow}
-use Rattle.nn_mapping.proofs.Places.{length-places, get_or-places, place_at, some_columns}
+use Rattle.nn_mapping.proofs.Places.{length-places, get_or-places, place_at, some_columns, mapped-consistent}
 
 record FoundAt (p : ℕ × ℕ → Bool) (xs : List (ℕ × ℕ)) (place : ℕ × ℕ) (n : ℕ) : Type 0 where
   inside : n < length xs
@@ -47,15 +48,15 @@ summing : (b : Bool) (o : Option (ℕ × ℕ)) (place : ℕ × ℕ) → cond b o
 summing true o place e = e
 summing false o place e = absurd (cc)
 
-passed_value : (sum : ℤ) → not (leb (unsigned_abs sum) (10 ^ 13)) ≡ false → IsValue sum
-passed_value sum e = leb-true (unsigned_abs sum) (10 ^ 13) (not_false (leb (unsigned_abs sum) (10 ^ 13)) e)
+passed_value : (sum : ℤ) → not (is_value sum) ≡ false → IsValue sum
+passed_value sum e = value_from_true sum (not_false (is_value sum) e)
   where
     not_false : (b : Bool) → not b ≡ false → b ≡ true
     not_false true e = refl
     not_false false e = absurd (cc)
 
-failed_value : (sum : ℤ) → not (leb (unsigned_abs sum) (10 ^ 13)) ≡ true → ¬ IsValue sum
-failed_value sum e = λ value. let is = le-leb (unsigned_abs sum) (10 ^ 13) value in let both = ap not is in absurd (cc)
+failed_value : (sum : ℤ) → not (is_value sum) ≡ true → ¬ IsValue sum
+failed_value sum e = λ value. let both = ap not (is_value-true sum value) in absurd (cc)
 
 -- an earlier place has a lower index
 earlier_index : (w d v c components n : ℕ) → d < components → n ≡ v * components + c → ComesBefore w d v c → w * components + d < n
@@ -65,7 +66,7 @@ earlier_index w d v c components n column at (inr same) = let rows = ap (λ (r :
 pub mapped_field-IsFirstOverflow : (m : Mapping) (field : Field) (v c : ℕ) → mapped_field m field ≡ Err (v, c) → IsFirstOverflow m field v c
 unfolding overflow_of
 mapped_field-IsFirstOverflow m field v c undefined =
-    let test : ℕ × ℕ → Bool = λ place. not (leb (unsigned_abs (mapped_component m field place)) (10 ^ 13)) in
+    let test : ℕ × ℕ → Bool = λ place. not (is_value (mapped_component m field place)) in
     let found = found_at test (places m.targets field.components) (v, c)
     (summing m.conservative (find test (places m.targets field.components)) (v, c)
     (undefined_is (overflow_of m field) (record { components = field.components; values = mapped_values m field }) (v, c) undefined)) in
@@ -86,7 +87,7 @@ mapped_field-IsFirstOverflow m field v c undefined =
       no_value = failed_value (mapped_component m field (v, c)) found.passes;
       first = λ w d vertex component before.
           passed_value (mapped_component m field (w, d))
-          (subst (λ (q : ℕ × ℕ). not (leb (unsigned_abs (mapped_component m field q)) (10 ^ 13)) ≡ false) (get_or-places m.targets field.components w d (0, 0) vertex component)
+          (subst (λ (q : ℕ × ℕ). not (is_value (mapped_component m field q)) ≡ false) (get_or-places m.targets field.components w d (0, 0) vertex component)
           (found.before (w * field.components + d) (earlier_index w d v c field.components n component at before)));
     }
 
@@ -108,11 +109,15 @@ pub mapped_field-all_values : (m : Mapping) (field out : Field) (v c : ℕ) → 
     → IsValue (mapped_component m field (v, c))
 unfolding overflow_of
 mapped_field-all_values m field out v c kind defined within column =
-    let test : ℕ × ℕ → Bool = λ place. not (leb (unsigned_abs (mapped_component m field place)) (10 ^ 13)) in
+    let test : ℕ × ℕ → Bool = λ place. not (is_value (mapped_component m field place)) in
     let none : find test (places m.targets field.components) ≡ None =
     sym (ap (λ (b : Bool). cond b (find test (places m.targets field.components)) None) kind)
     ∙ defined_none (overflow_of m field) (record { components = field.components; values = mapped_values m field }) out defined in
     let inside = row_fits v field.components m.targets field.components within (omega arith) in
     passed_value (mapped_component m field (v, c))
-    (subst (λ (q : ℕ × ℕ). not (leb (unsigned_abs (mapped_component m field q)) (10 ^ 13)) ≡ false) (get_or-places m.targets field.components v c (0, 0) within column)
+    (subst (λ (q : ℕ × ℕ). not (is_value (mapped_component m field q)) ≡ false) (get_or-places m.targets field.components v c (0, 0) within column)
     (none_found test (places m.targets field.components) none (v * field.components + c) (omega (arith, inside, column, length-places m.targets field.components))))
+
+-- a consistent mapping looks for no overflow
+pub mapped_field-consistent : (m : Mapping) (field : Field) → m.conservative ≡ false → mapped_field m field ≡ Ok (record { components = field.components; values = mapped_values m field })
+mapped_field-consistent m field kind = mapped-consistent m field (mapped_values m field) field.components kind refl refl

@@ -1,16 +1,16 @@
 -- The places of a field by their index, and the mapped field from the values at them.
-use Rattle.std.proofs.Common.{◌≡◌, ℕ, zero, suc, ◌+◌, ◌-◌, ◌*◌, ◌/◌, ◌%◌, ◌^◌, ◌<◌, Bool, true, false, not, cond, leb, Option, None, Some, Result, Ok, Err, List, [], ◌++◌, ℤ, pos, unsigned_abs, All, length, get_or, map, sym, ap, ◌∙◌, inl, inr, arith}
-use Rattle.std.proofs.Math.Nat.{lt_of_not-le}
+use Rattle.std.proofs.Common.{◌≡◌, ℕ, zero, suc, ◌+◌, ◌-◌, ◌*◌, ◌/◌, ◌%◌, ◌<◌, Bool, true, false, not, cond, Option, None, Some, Result, Ok, Err, List, [], ◌++◌, ℤ, pos, All, length, get_or, map, sym, ap, ◌∙◌, inl, inr, arith}
 use Rattle.std.specs.List.{range_with_len, flat_map, find, slice_get, AllWithin}
 use Rattle.std.specs.Option.{option_map_or}
-use Rattle.std.proofs.lemmas.Bool.{cases_lt, le-leb, lt-leb}
+use Rattle.std.proofs.lemmas.Bool.{cases_lt}
 use Rattle.std.proofs.lemmas.List.{flat_map_more, length-append, length-map, get_or-map, get_or-append_right, get_or_append_left, get_or_default, same_lists}
 use Rattle.std.proofs.lemmas.List.Folds.{find_at}
 use Rattle.std.proofs.lemmas.List.FromFn.{length-map-range_with_len, get_or-map-range_with_len}
 use Rattle.std.proofs.lemmas.List.Sums.{position_or_len_is}
 use Rattle.std.proofs.lemmas.Nat.{div-add-mod', div_below, mod_below, row_fits}
 use Rattle.std.proofs.lemmas.Option.{slice_get-get_or, slice_get_past}
-use Rattle.fixed_num.specs.Numbers.{IsValue}
+use Rattle.fixed_num.specs.Numbers.{IsValue, is_value}
+use Rattle.fixed_num.proofs.ValueTests.{is_value-true, is_value-false}
 use Rattle.waveform.specs.declared.field.Field.{Field}
 use Rattle.nn_mapping.specs.Mapping.{Mapping}
 use Rattle.nn_mapping.specs.MappedField.{places, mapped_component, mapped_values, overflow_of, mapped_field, sum_over, sources_of, component_of}
@@ -93,11 +93,11 @@ out_at f places sums k is within =
     let size = ap length is ∙ length-map places f in
     sym (get_or-map f places k (0, 0) (pos 0) (omega (arith, size, within))) ∙ ap (λ (xs : List ℤ). get_or xs k (pos 0)) (sym is)
 
-is_value : (sum : ℤ) → IsValue sum → not (leb (unsigned_abs sum) (10 ^ 13)) ≡ false
-is_value sum h = ap not (le-leb (unsigned_abs sum) (10 ^ 13) h)
+passes : (sum : ℤ) → IsValue sum → not (is_value sum) ≡ false
+passes sum h = ap not (is_value-true sum h)
 
-no_value : (sum : ℤ) → ¬ IsValue sum → not (leb (unsigned_abs sum) (10 ^ 13)) ≡ true
-no_value sum h = ap not (lt-leb (unsigned_abs sum) (10 ^ 13) (lt_of_not-le h))
+fails : (sum : ℤ) → ¬ IsValue sum → not (is_value sum) ≡ true
+fails sum h = ap not (is_value-false sum h)
 
 -- the overflow that is told, from the sums
 pub mapped-undefined : (m : Mapping) (field : Field) (sums : List ℤ) (i : ℕ) → m.conservative ≡ true → sums ≡ mapped_values m field → i < length sums
@@ -106,13 +106,13 @@ unfolding mapped_values overflow_of
 mapped-undefined m field sums i kind is within out before =
     let f = mapped_component m field in
     let all = places m.targets field.components in
-    let test : ℕ × ℕ → Bool = λ place. not (leb (unsigned_abs (mapped_component m field place)) (10 ^ 13)) in
+    let test : ℕ × ℕ → Bool = λ place. not (is_value (mapped_component m field place)) in
     let size : length sums ≡ length (places m.targets field.components) = ap length is ∙ length-map (places m.targets field.components) (mapped_component m field) in
     let found = find_first test (places m.targets field.components) i (0, 0) (omega (arith, size, within))
-    (λ k earlier. ap (λ (sum : ℤ). not (leb (unsigned_abs sum) (10 ^ 13))) (out_at (mapped_component m field) (places m.targets field.components) sums k is (omega (arith, within, earlier)))
-    ∙ is_value (get_or sums k (pos 0)) (before k (pos 0) (omega arith) earlier))
-    (ap (λ (sum : ℤ). not (leb (unsigned_abs sum) (10 ^ 13))) (out_at (mapped_component m field) (places m.targets field.components) sums i is within)
-    ∙ no_value (get_or sums i (pos 0)) out) in
+    (λ k earlier. ap (λ (sum : ℤ). not (is_value sum)) (out_at (mapped_component m field) (places m.targets field.components) sums k is (omega (arith, within, earlier)))
+    ∙ passes (get_or sums k (pos 0)) (before k (pos 0) (omega arith) earlier))
+    (ap (λ (sum : ℤ). not (is_value sum)) (out_at (mapped_component m field) (places m.targets field.components) sums i is within)
+    ∙ fails (get_or sums i (pos 0)) out) in
     let place = place_at m.targets field.components i (0, 0) (omega (arith, size, within, length-places m.targets field.components)) in
     ap (λ (b : Bool). option_map_or Err (cond b (find test (places m.targets field.components)) None) (Ok (record { components = field.components; values = mapped_values m field }))) kind
     ∙ ap (λ (o : Option (ℕ × ℕ)). option_map_or Err o (Ok (record { components = field.components; values = mapped_values m field }))) (found ∙ ap (λ (p : ℕ × ℕ). Some p) place)
@@ -125,11 +125,11 @@ pub mapped-defined : (m : Mapping) (field : Field) (values : List ℤ) (componen
     → mapped_field m field ≡ Ok (record { components = components; values = values })
 unfolding mapped_values overflow_of
 mapped-defined m field values components kind is in_range same =
-    let test : ℕ × ℕ → Bool = λ place. not (leb (unsigned_abs (mapped_component m field place)) (10 ^ 13)) in
+    let test : ℕ × ℕ → Bool = λ place. not (is_value (mapped_component m field place)) in
     let size : length values ≡ length (places m.targets field.components) = ap length is ∙ length-map (places m.targets field.components) (mapped_component m field) in
     let none = find_none test (places m.targets field.components) (0, 0)
-    (λ k within. ap (λ (sum : ℤ). not (leb (unsigned_abs sum) (10 ^ 13))) (out_at (mapped_component m field) (places m.targets field.components) values k is (omega (arith, size, within)))
-    ∙ is_value (get_or values k (pos 0)) (in_range k (pos 0) (omega (arith, size, within)))) in
+    (λ k within. ap (λ (sum : ℤ). not (is_value sum)) (out_at (mapped_component m field) (places m.targets field.components) values k is (omega (arith, size, within)))
+    ∙ passes (get_or values k (pos 0)) (in_range k (pos 0) (omega (arith, size, within)))) in
     ap (λ (b : Bool). option_map_or Err (cond b (find test (places m.targets field.components)) None) (field_with field.components (mapped_values m field))) kind
     ∙ ap (λ (o : Option (ℕ × ℕ)). option_map_or Err o (field_with field.components (mapped_values m field))) none
     ∙ ap (field_with field.components) (sym is)
@@ -140,7 +140,7 @@ pub mapped-consistent : (m : Mapping) (field : Field) (values : List ℤ) (compo
     → mapped_field m field ≡ Ok (record { components = components; values = values })
 unfolding overflow_of
 mapped-consistent m field values components kind is same =
-    ap (λ (b : Bool). option_map_or Err (cond b (find (λ place. not (leb (unsigned_abs (mapped_component m field place)) (10 ^ 13))) (places m.targets field.components)) None) (field_with field.components (mapped_values m field))) kind
+    ap (λ (b : Bool). option_map_or Err (cond b (find (λ place. not (is_value (mapped_component m field place))) (places m.targets field.components)) None) (field_with field.components (mapped_values m field))) kind
     ∙ ap (field_with field.components) (sym is)
     ∙ ap (λ (n : ℕ). field_with n values) (sym same)
 

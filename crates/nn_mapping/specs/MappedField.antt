@@ -1,7 +1,8 @@
 -- A field that is mapped from one mesh to another. From the coupling documentation's consistent and conservative mappings; that a sum can be no Value is the project's own.
-use Rattle.std.specs.Prelude.{◌≡◌, ℕ, ◌+◌, ◌*◌, ◌^◌, ◌==◌, Bool, not, nat_le, Option, None, Result, Ok, Err, List, ℤ, pos, ◌+ℤ◌, unsigned_abs, length, map, filter, find, fold, slice_index, slice_index_or, if◌then◌else◌}
+use Rattle.std.specs.Prelude.{◌≡◌, ℕ, ◌+◌, ◌*◌, ◌==◌, not, Option, None, Result, Ok, Err, List, ℤ, pos, ◌+ℤ◌, length, map, filter, find, fold, slice_index, slice_index_or, if◌then◌else◌}
 use Rattle.std.specs.List.{range_with_len, flat_map}
 use Rattle.std.specs.Option.{option_map_or}
+use Rattle.fixed_num.specs.Numbers.{is_value}
 use Rattle.waveform.specs.declared.field.Field.{Field}
 use Rattle.nn_mapping.specs.Mapping.{Mapping}
 
@@ -33,10 +34,6 @@ mapped_component m field (v, c) =
 -- the places of a field, each a vertex and a component, in the order of its values
 abbrev pub places : (vertices components : ℕ) → List (ℕ × ℕ)
 places vertices components = flat_map (λ v. map (λ c. (v, c)) (range_with_len 0 components)) (range_with_len 0 vertices)
-
--- whether a number of units is a Value
-abbrev pub is_value : ℤ → Bool
-is_value units = nat_le (unsigned_abs units) (10 ^ 13)
 
 -- the first place whose sum is no Value, if there is one; a consistent mapping sums nothing
 unfoldable pub overflow_of : Mapping → Field → Option (ℕ × ℕ)

@@ -1,7 +1,7 @@
 -- The nearest vertex of a mesh to a point. The coupling documentation has the nearest neighbour; that the first of equally near vertices is taken is the project's own.
 use Rattle.std.specs.Prelude.{◌≡◌, ℕ, ◌<◌, ◌≤◌, ℤ, List, [], length, slice_index, slice_index_or, nat_le}
 use Rattle.std.specs.List.{list_all, position_or_len}
-use Rattle.mesh_data.specs.Distances.{square_distance}
+use Rattle.fixed_num.specs.Norm.{square_distance}
 
 -- the square of the distance from a point to vertex v of a mesh
 abbrev pub distance_to : (mesh : List (List ℤ)) (point : List ℤ) (v : ℕ) → ℕ

@@ -1,11 +1,11 @@
 //! What is true of the definitions alone. The calls do nothing.
 
-ghost use Rattle.std.specs.Prelude.{◌≡◌, ◌↔◌, ◌<◌, IsTrue, ℕ, ℤ, List, Ok, Err, true, false, length};
+ghost use Rattle.std.specs.Prelude.{◌≡◌, ◌<◌, ℕ, ℤ, List, Ok, Err, true, false, length};
 ghost use Rattle.fixed_num.specs.Numbers.{IsValue};
 ghost use Rattle.waveform.specs.declared.field.Field.{Field};
 ghost use Rattle.nn_mapping.specs.Nearest.{IsNearest, nearest_vertex};
 ghost use Rattle.nn_mapping.specs.Mapping.{Mapping, IsMapping};
-ghost use Rattle.nn_mapping.specs.MappedField.{is_value, mapped_component, mapped_field, component_of, total_of};
+ghost use Rattle.nn_mapping.specs.MappedField.{mapped_component, mapped_values, mapped_field, component_of, total_of};
 ghost use Rattle.nn_mapping.specs.Overflows.{IsFirstOverflow};
 
 /// A mesh with a vertex has exactly one nearest vertex to each point.
@@ -16,19 +16,17 @@ pub fn one_vertex_is_nearest()
         → nearest_vertex mesh point ≡ v }
 {}
 
-/// The test of a sum is the range of the Values.
-pub fn sums_are_tested_as_values()
-    ensures { (units : ℤ) → IsTrue (is_value units) ↔ IsValue units }
-{}
-
-/// A mapped field is undefined at the first place whose sum is no Value; where it is defined, all
-/// sums are Values.
+/// A field that is mapped by a conservative mapping is undefined at the first place whose whole sum
+/// is no Value; where it is defined, all sums are Values. A consistent mapping sums nothing, and what
+/// it maps is always defined.
 pub fn undefined_at_the_first_overflow()
     ensures undefined { (m : Mapping) (field : Field) (v c : ℕ) → mapped_field m field ≡ Err (v, c)
         → IsFirstOverflow m field v c }
     ensures defined { (m : Mapping) (field out : Field) (v c : ℕ) → m.conservative ≡ true
         → mapped_field m field ≡ Ok out → v < m.targets → c < field.components
         → IsValue (mapped_component m field (v, c)) }
+    ensures consistent { (m : Mapping) (field : Field) → m.conservative ≡ false → mapped_field m field
+        ≡ Ok (record { components = field.components; values = mapped_values m field }) }
 {}
 
 /// A conservative mapping keeps the sum of each component over all vertices.

@@ -37,7 +37,7 @@ impl Field {
     {
         Ok(Field {
             components: self.components,
-            values: Items::from_vec(Vec::from_slice(alloc, self.values.as_slice())?),
+            values: self.values.copy(alloc)?,
         })
     }
 

@@ -1,7 +1,7 @@
 ghost use Rattle.std.specs.Prelude.{◌≡◌, IfOk};
 
 use crate::field::Field;
-use fixed_num::Memory;
+use fixed_num::{CopyIn, Memory};
 use std::alloc::Global;
 
 /// A field at a time. Contracts see a [`Wave`](crate::Wave) as the list of its samples.
@@ -21,5 +21,11 @@ impl Sample {
             time: self.time,
             field: self.field.copy(alloc)?,
         })
+    }
+}
+
+impl CopyIn for Sample {
+    fn copy_in(&self, alloc: Global) -> Result<Sample, Memory> {
+        self.copy(alloc)
     }
 }

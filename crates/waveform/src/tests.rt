@@ -37,62 +37,82 @@ fn wave_of(alloc: Global, first: i128, time: u64, last: i128) -> Result<Wave, Me
     Ok(wave)
 }
 
-fn read(wave: &Wave, degree: u32, t: u64) -> i64
-    requires degree { degree ≤ 1 }
-    requires time { (length wave.now ≡ 1) ⊎ ((first_time wave.now ≤ t) × (t ≤ last_time wave.now)) }
-    requires len { All (λ s. length s.field.values ≡ 1) wave.now }
-{
+/// What a wave of two samples, the first at time 0, gives at time t, which is none of a later time or of
+/// a higher degree.
+fn read(
+    alloc: Global,
+    samples: (i128, u64, i128),
+    degree: u32,
+    t: u64,
+) -> Result<Option<i64>, Memory> {
+    let (first, time, last) = samples;
+    if degree > 1 || time < t || time == 0 {
+        return Ok(None);
+    }
+    let wave = wave_of(alloc, first, time, last)?;
     let mut out = [0];
     wave.read_at(degree, t, &mut out);
-    out[0]
+    Ok(Some(out[0]))
 }
 
 #[test]
 fn reads_between_samples_and_ahead(rt: HostRuntime) -> Result<(), Fail> {
     let alloc = rt.alloc();
-    let tie_to_zero = wave_of(alloc, 0, 2, 1)?;
-    assert_eq!(rt; read(&tie_to_zero, 1, 1), 0);
-    let tie_to_two = wave_of(alloc, 0, 2, 3)?;
-    assert_eq!(rt; read(&tie_to_two, 1, 1), 2);
-    let steps = wave_of(alloc, 5, 3, 7)?;
-    assert_eq!(rt; read(&steps, 0, 0), 5);
-    assert_eq!(rt; read(&steps, 0, 1), 7);
-    assert_eq!(rt; read(&steps, 1, 3), 7);
+    let cases = [
+        ((0, 2, 1), 1, 1, 0),
+        ((0, 2, 3), 1, 1, 2),
+        ((5, 3, 7), 0, 0, 5),
+        ((5, 3, 7), 0, 1, 7),
+        ((5, 3, 7), 1, 3, 7),
+    ];
+    for (samples, degree, t, units) in cases {
+        assert!(rt; read(alloc, samples, degree, t)? == Some(units), "at {t}");
+    }
     Ok(())
+}
+
+/// Why a wave does not take a sample of zeros, two components each vertex.
+fn refusal(
+    alloc: Global,
+    wave: &mut Wave,
+    time: u64,
+    vertices: usize,
+) -> Result<Option<WaveErr>, Memory> {
+    match wave.push(time, Field::zeros(alloc, vertices, 2)?) {
+        Ok(()) => Ok(None),
+        Err((cause, _)) => Ok(Some(cause)),
+    }
+}
+
+/// A wave of so many samples of zeros, one vertex each, at the times from 0.
+fn zeros(alloc: Global, count: u64) -> Result<Wave, Memory> {
+    let Ok(mut wave) = Wave::constant(alloc, 0, Field::zeros(alloc, 1, 2)?) else {
+        return Err(Memory);
+    };
+    for time in 1..count {
+        refusal(alloc, &mut wave, time, 1)?;
+    }
+    Ok(wave)
 }
 
 #[test]
 fn refuses_what_does_not_follow(rt: HostRuntime) -> Result<(), Fail> {
     let alloc = rt.alloc();
-    let mut wave = wave_of(alloc, 5, 3, 7)?;
-    for (time, vertices, cause) in [
-        (3, 1, WaveErr::TimeNotAfter),
-        (3, 2, WaveErr::TimeNotAfter),
-        (4, 2, WaveErr::Length),
-    ] {
-        let Err((told, field)) = wave.push(time, Field::zeros(alloc, vertices, 1)?) else {
-            return Err(Fail::from(Memory));
-        };
-        assert!(rt; told == cause, "at {time}");
-        assert_eq!(rt; field.values.len(), vertices);
+    let mut wave = zeros(alloc, 1_024)?;
+    let cases = [
+        (1_023, 1, Some(WaveErr::TimeNotAfter)),
+        (1_023, 2, Some(WaveErr::TimeNotAfter)),
+        (1_024, 2, Some(WaveErr::Length)),
+        (1_024, 1, None),
+        (1_025, 1, Some(WaveErr::TooMany)),
+    ];
+    for (time, vertices, cause) in cases {
+        assert!(rt;
+            refusal(alloc, &mut wave, time, vertices)? == cause,
+            "at {time}"
+        );
     }
-    assert_eq!(rt; wave.len(), 2);
-    Ok(())
-}
-
-#[test]
-fn takes_as_many_samples_as_it_may(rt: HostRuntime) -> Result<(), Fail> {
-    let alloc = rt.alloc();
-    let mut wave = Wave::constant(alloc, 0, Field::zeros(alloc, 1, 2)?).map_err(|e| e.1)?;
-    for time in 1..1_025 {
-        assert!(rt; wave.push(time, Field::zeros(alloc, 1, 2)?).is_ok());
-    }
-    let copy = wave.copy(alloc)?;
-    assert_eq!(rt; copy.len(), MOST_SAMPLES);
-    let Err((told, _)) = wave.push(1_025, Field::zeros(alloc, 1, 2)?) else {
-        return Err(Fail::from(Memory));
-    };
-    assert!(rt; told == WaveErr::TooMany);
+    assert!(rt; wave.copy(alloc)?.len() == MOST_SAMPLES);
     Ok(())
 }
 
@@ -100,14 +120,7 @@ fn takes_as_many_samples_as_it_may(rt: HostRuntime) -> Result<(), Fail> {
 fn fields_are_zeros_first_and_copied_whole(rt: HostRuntime) -> Result<(), Fail> {
     let alloc = rt.alloc();
     let copy = Field::zeros(alloc, 4, 3)?.copy(alloc)?;
-    assert_eq!(rt; copy.components, 3);
-    assert_eq!(rt; copy.values.len(), 12);
-    let one = Wave::constant(alloc, 9, copy).map_err(|e| e.1)?;
-    let copy = one.copy(alloc)?;
-    assert_eq!(rt; copy.len(), 1);
-    if copy.len() == 1 {
-        assert_eq!(rt; copy.time(0), 9);
-        assert_eq!(rt; copy.field(0).values.len(), 12);
-    }
+    assert!(rt; copy.components == 3);
+    assert!(rt; copy.values.len() == 12);
     Ok(())
 }

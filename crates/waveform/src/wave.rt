@@ -8,7 +8,7 @@ ghost use Rattle.waveform.specs.Between.{IsBetween, component_of};
 use crate::field::Field;
 use crate::reading::write_at;
 use crate::sample::Sample;
-use fixed_num::Memory;
+use fixed_num::{Memory, copies_of};
 use std::alloc::Global;
 use std::marker::Model;
 use thiserror::Error;
@@ -169,15 +169,4 @@ fn is_like_all(samples: &[Sample], field: &Field) -> bool
     ensures { IsTrue result ↔ All (λ s. IsLike s.field field.now) samples.now }
 {
     samples[0].field.is_like(field)
-}
-
-/// Equal samples in memory of their own.
-fn copies_of(alloc: Global, samples: &[Sample]) -> Result<Vec<Sample>, Memory>
-    ensures { IfOk result (λ copies. copies.items ≡ samples.now) }
-{
-    let mut copies = Vec::with_capacity(alloc, samples.len())?;
-    for sample in samples {
-        copies.push(sample.copy(alloc)?)?;
-    }
-    Ok(copies)
 }

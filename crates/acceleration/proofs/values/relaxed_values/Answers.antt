@@ -5,7 +5,7 @@ use Rattle.fixed_num.specs.Numbers.{IsValue}
 use Rattle.fixed_num.specs.Relaxation.{relaxed}
 use Rattle.acceleration.specs.RelaxedWaves.{relaxed_values}
 use Rattle.acceleration.proofs.Entries.{relaxed_values_more, relaxed_values-get_or, length-relaxed_values, kept64}
-use Rattle.acceleration.proofs.Spots.{values_inside, values_outside}
+use Rattle.acceleration.proofs.Locations.{values_inside, values_outside}
 use Rattle.acceleration.proofs.values.relaxed_values.Goals as goal
 
 pub loop-i-preserved : goal.loop-i-preserved

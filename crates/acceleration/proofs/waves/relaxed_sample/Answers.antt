@@ -6,7 +6,7 @@ use Rattle.waveform.specs.declared.field.Field.{Field}
 use Rattle.waveform.specs.WaveValue.{read}
 use Rattle.acceleration.specs.Exchanged.{exchange_of}
 use Rattle.acceleration.specs.Causes.{Tells}
-use Rattle.acceleration.specs.Outside.{first_outside, spots_of_sample}
+use Rattle.acceleration.specs.Outside.{first_outside, located_sample}
 use Rattle.acceleration.specs.RelaxedWaves.{relaxed_values}
 use Rattle.acceleration.proofs.Widths.{time_at, field_at, covered_at, width_of_taken, width_of_posted}
 use Rattle.acceleration.proofs.Fronts.{sample_made, like_all}
@@ -35,7 +35,7 @@ returns-in_err-field-clause-outside c = λ sample found.
     same_Some _ _ (sym (sample_made f e c.args.i c.time-time.result c.field.result.now made c.requires.inside c.time-time.ensures c.field.ensures refl refl) ∙ found) in
     let p = err_from_is_err_and c.from_residual.result c.from_residual.ensures.1 in
     rw (p.1, p.2)
-    (subst (λ (s : Sample). Tells (first_outside (spots_of_sample c.args.step.now.place s)) c.in_err-field.field-0.0) is c.in_err-field.ensures.outside)
+    (subst (λ (s : Sample). Tells (first_outside (located_sample c.args.step.now.place s)) c.in_err-field.field-0.0) is c.in_err-field.ensures.outside)
 
 pub returns-clause-sample : goal.returns-clause-sample
 returns-clause-sample c =

@@ -3,8 +3,8 @@ use Rattle.std.proofs.lemmas.Result.{err_from_is_err_and}
 use Rattle.std.proofs.lemmas.List.{with_items_is}
 use Rattle.acceleration.specs.Exchanged.{exchange_of}
 use Rattle.acceleration.specs.RelaxedWaves.{relaxed_wave}
-use Rattle.acceleration.specs.Outside.{first_outside, spots_of_sample, spots_of_wave}
-use Rattle.acceleration.proofs.Spots.{first_outside-nil}
+use Rattle.acceleration.specs.Outside.{first_outside, located_sample, located_wave}
+use Rattle.acceleration.proofs.Locations.{first_outside-nil}
 use Rattle.acceleration.proofs.Widths.{no_sample}
 use Rattle.acceleration.proofs.Fronts.{IsFront-next, outside_at, sample_found, later}
 use Rattle.acceleration.proofs.Causes.{tells_on}
@@ -20,8 +20,8 @@ returns-in_err-first-clause-outside c =
     let found = sample_found f e 0 inside in
     let p = err_from_is_err_and c.from_residual-in_err-first.result c.from_residual-in_err-first.ensures.1 in
     rw (p.1, p.2) (
-    tells_on (first_outside (spots_of_sample place s)) (first_outside (spots_of_wave place (relaxed_wave f e))) c.in_err-first.field-0.0
-    (λ spot first. outside_at f place 0 e s [] spot inside found refl first_outside-nil first)
+    tells_on (first_outside (located_sample place s)) (first_outside (located_wave place (relaxed_wave f e))) c.in_err-first.field-0.0
+    (λ location first. outside_at f place 0 e s [] location inside found refl first_outside-nil first)
     (c.in_err-first.ensures.outside s found)
     )
 
@@ -36,8 +36,8 @@ returns-in_err-sample-clause-outside c =
     let front = c.loop-i.invariant.1 in
     let p = err_from_is_err_and c.from_residual-in_err-sample.result c.from_residual-in_err-sample.ensures.1 in
     rw (p.1, p.2) (
-    tells_on (first_outside (spots_of_sample place s)) (first_outside (spots_of_wave place (relaxed_wave f e))) c.in_err-sample.field-0.0
-    (λ spot first. outside_at f place c.loop-i.i e s c.loop-i.wave spot inside found front.made front.inside first)
+    tells_on (first_outside (located_sample place s)) (first_outside (located_wave place (relaxed_wave f e))) c.in_err-sample.field-0.0
+    (λ location first. outside_at f place c.loop-i.i e s c.loop-i.wave location inside found front.made front.inside first)
     (c.in_err-sample.ensures.outside s found)
     )
 

@@ -4,8 +4,8 @@ use Rattle.std.proofs.lemmas.List.{take_all, length-map}
 use Rattle.waveform.specs.declared.sample.Sample.{Sample}
 use Rattle.acceleration.specs.Exchanged.{exchange_of, exchanged}
 use Rattle.acceleration.specs.RelaxedWaves.{relaxed_wave, relaxed_waves}
-use Rattle.acceleration.specs.Outside.{first_outside, spots_of_wave, spots_of}
-use Rattle.acceleration.proofs.Spots.{first_outside-nil}
+use Rattle.acceleration.specs.Outside.{first_outside, located_wave, located}
+use Rattle.acceleration.proofs.Locations.{first_outside-nil}
 use Rattle.acceleration.proofs.Exchanges.{exchange_at, can_relax_at, length-exchanged}
 use Rattle.acceleration.proofs.WaveLists.{AreFront-next, outside_in}
 use Rattle.acceleration.proofs.Causes.{tells_on}
@@ -14,7 +14,7 @@ use Rattle.acceleration.proofs.waves.relaxed_waves.Goals as goal
 pub loop-i-init : goal.loop-i-init
 loop-i-init c =
     let none : c.in_ok-waves.waves.items ≡ [] = search rules in
-    record { made = none; inside = ap (λ (ws : List (List Sample)). first_outside (spots_of ws)) none ∙ first_outside-nil }
+    record { made = none; inside = ap (λ (ws : List (List Sample)). first_outside (located ws)) none ∙ first_outside-nil }
 
 pub relaxed_wave-requires-clause-exchange : goal.relaxed_wave-requires-clause-exchange
 relaxed_wave-requires-clause-exchange c =
@@ -35,8 +35,8 @@ returns-in_err-relaxed_wave-clause-outside c =
     c.requires.one_degree c.requires.one_read c.loop-i-test.true refl c.index-read-i.is c.index-posted-i.is in
     let p = err_from_is_err_and c.from_residual-in_err-relaxed_wave.result c.from_residual-in_err-relaxed_wave.ensures.1 in
     rw (p.1, p.2) (
-    tells_on (first_outside (spots_of_wave i (relaxed_wave c.args.factor e))) (first_outside (spots_of (relaxed_waves c.args.factor all))) c.in_err-relaxed_wave.field-0.0
-    (λ spot first. outside_in c.args.factor i all e c.loop-i.waves.items spot inside is c.loop-i.invariant first)
+    tells_on (first_outside (located_wave i (relaxed_wave c.args.factor e))) (first_outside (located (relaxed_waves c.args.factor all))) c.in_err-relaxed_wave.field-0.0
+    (λ location first. outside_in c.args.factor i all e c.loop-i.waves.items location inside is c.loop-i.invariant first)
     c.in_err-relaxed_wave.ensures.outside
     )
 
@@ -63,4 +63,4 @@ returns-clause-inside c =
     let all = exchanged c.args.degrees.now c.args.read.now c.args.posted.now in
     let many = length-exchanged c.args.degrees.now c.args.read.now c.args.posted.now c.requires.one_degree c.requires.one_read in
     let made = c.loop-i.invariant.made ∙ take_all c.loop-i.i (relaxed_waves c.args.factor all) (rw length-map (omega (arith, many, c.loop-i-test.false))) in
-    ap (λ (ws : List (List Sample)). first_outside (spots_of ws)) (sym made) ∙ c.loop-i.invariant.inside
+    ap (λ (ws : List (List Sample)). first_outside (located ws)) (sym made) ∙ c.loop-i.invariant.inside

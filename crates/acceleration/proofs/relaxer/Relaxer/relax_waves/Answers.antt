@@ -5,10 +5,10 @@ use Rattle.waveform.specs.declared.sample.Sample.{Sample}
 use Rattle.acceleration.specs.Exchanged.{exchanged}
 use Rattle.acceleration.specs.RelaxerState.{RelaxerState}
 use Rattle.acceleration.specs.RelaxedWaves.{relaxed_wave, relaxed_waves}
-use Rattle.acceleration.specs.Outside.{first_outside, spots_of}
+use Rattle.acceleration.specs.Outside.{first_outside, located}
 use Rattle.acceleration.specs.RelaxedIterate.{relaxed_iterate}
 use Rattle.acceleration.proofs.Exchanges.{length-exchanged}
-use Rattle.acceleration.proofs.Iterates.{iterate_defined, iterate_outside, names_spot, names_none}
+use Rattle.acceleration.proofs.Iterates.{iterate_defined, iterate_outside, names_location, names_none}
 use Rattle.acceleration.proofs.relaxer.Relaxer.relax_waves.Goals as goal
 
 pub returns-clause-iterate : goal.returns-clause-iterate
@@ -32,10 +32,10 @@ pub returns-in_err-waves-clause-overflow : goal.returns-in_err-waves-clause-over
 returns-in_err-waves-clause-overflow c =
     let all = exchanged c.args.degrees.now c.args.read.now c.args.posted.now in
     let p = err_from_is_err_and c.from_residual-in_err-waves.result c.from_residual-in_err-waves.ensures.1 in
-    names_spot c.from_residual-in_err-waves.result (relaxed_iterate c.args.self.now all) (first_outside (spots_of (relaxed_waves c.in_ok-factor.factor all))) c.in_err-waves.field-0.0
+    names_location c.from_residual-in_err-waves.result (relaxed_iterate c.args.self.now all) (first_outside (located (relaxed_waves c.in_ok-factor.factor all))) c.in_err-waves.field-0.0
     (p.1 ∙ ap Err p.2) c.in_err-waves.ensures.outside
-    (λ spot outside. ap (λ (s : RelaxerState). relaxed_iterate s all) (sym c.self.view_is)
-    ∙ iterate_outside (record { method = c.self.inside.method; memory = c.self.inside.memory }) all c.in_ok-factor.factor spot c.in_ok-factor.ensures.factor outside)
+    (λ location outside. ap (λ (s : RelaxerState). relaxed_iterate s all) (sym c.self.view_is)
+    ∙ iterate_outside (record { method = c.self.inside.method; memory = c.self.inside.memory }) all c.in_ok-factor.factor location c.in_ok-factor.ensures.factor outside)
 
 pub returns-clause-count : goal.returns-clause-count
 returns-clause-count c =

@@ -1,7 +1,0 @@
-use Rattle.std.specs.Iterator.Adapters.{zip_first, zip_second}
-use Rattle.std.specs.Slice.Iter.{iter_rest}
-use Rattle.mesh_data.proofs.PairSums.{Carries}
-use Rattle.mesh_data.proofs.distance.sum_of_squares.Given as goal
-
-abbrev pub invariant-loop-x : goal.invariant-loop-x
-invariant-loop-x l = Carries (iter_rest (zip_first l.x-iterator)) (iter_rest (zip_second l.x-iterator)) l.a l.b l.sum
