@@ -1,3 +1,12 @@
-mod ExampleOrder
+mod Broken
+mod BrokenOrders
+pub mod ExampleOrder
+pub mod FactsTold
+pub mod FirstStep
+pub mod FixedWindows
 pub mod LooksThrough
+pub mod MadeWindows
+pub mod Owners
 pub mod Partners
+pub mod PlanNodesOnce
+pub mod Readings

@@ -2,6 +2,7 @@
 use Rattle.std.specs.Prelude.{ℕ, ◌+◌, Bool, true, false, pos, List, [], ◌∷◌, Option, Some, None}
 use Rattle.plan_order.specs.declared.node.Node.TheVariants.{Single, Group}
 use Rattle.cpl_plan.specs.declared.parts.PlanParts.{PlanParts}
+use Rattle.cpl_plan.specs.declared.parts.WindowMethod.TheVariants.{Fixed}
 use Rattle.cpl_plan.specs.declared.parts.Part.{Part}
 use Rattle.cpl_plan.specs.declared.parts.PlanEntry.{PlanEntry}
 use Rattle.cpl_plan.specs.declared.parts.MapPlan.{MapPlan}
@@ -38,10 +39,10 @@ abbrev pub entry : (data_id mesh : ℕ) → PlanEntry
 entry data_id mesh = record { data_id = data_id; mesh = mesh }
 
 abbrev pub read_from : (from to : ℕ) → MapPlan
-read_from from to = record { reading = true; from = from; to = to; conservative = false }
+read_from from to = record { reading = true; from = from; to = to; conservative = false; projection = false }
 
 abbrev pub write_onto : (from to : ℕ) → MapPlan
-write_onto from to = record { reading = false; from = from; to = to; conservative = true }
+write_onto from to = record { reading = false; from = from; to = to; conservative = true; projection = false }
 
 abbrev pub example_parts : List Part
 example_parts =
@@ -134,8 +135,10 @@ example_exchanges =
 abbrev pub example_plan : PlanParts
 example_plan =
     record {
+      method = Fixed;
       window = 10;
       end_time = 25;
+      most_windows = 3;
       parts = example_parts;
       meshes = example_meshes;
       data_list = example_data_list;
@@ -189,8 +192,10 @@ vector_exchange = example_exchange 0 0 0 1 0 Fresh None (Some 0)
 abbrev pub two_participants : PlanParts
 two_participants =
     record {
+      method = Fixed;
       window = 10;
       end_time = 25;
+      most_windows = 3;
       parts = writer ∷ reader ∷ [];
       meshes = example_mesh 0 2 (0 ∷ []) ∷ example_mesh 1 2 (0 ∷ []) ∷ [];
       data_list = example_data 0 true 1 ∷ [];

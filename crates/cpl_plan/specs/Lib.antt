@@ -3,7 +3,10 @@ pub mod ExamplePlan
 pub mod ExchangeKinds
 pub mod Looks
 pub mod Needs
+pub mod PlanFacts
 pub mod PlanNodes
+pub mod PlanTests
 pub mod PlanWords
+pub mod SmallPlans
 pub mod ValidPlan
 pub mod Windows

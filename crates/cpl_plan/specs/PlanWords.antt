@@ -49,8 +49,8 @@ receives plan part mesh = passes plan.parts part (λ p. is_among mesh p.receives
 abbrev pub providers : PlanParts → ℕ → List ℕ
 providers plan mesh = filter (λ part. provides plan part mesh) (numbers plan.parts)
 
-abbrev pub carries : PlanParts → ℕ → ℕ → Bool
-carries plan mesh data_id = passes plan.meshes mesh (λ m. is_among data_id m.data_list)
+abbrev pub mesh_carries : PlanParts → ℕ → ℕ → Bool
+mesh_carries plan mesh data_id = passes plan.meshes mesh (λ m. is_among data_id m.data_list)
 
 abbrev pub have_equal_dimensions : PlanParts → ℕ → ℕ → Bool
 have_equal_dimensions plan one other =

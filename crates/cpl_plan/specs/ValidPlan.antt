@@ -1,232 +1,80 @@
 -- What an accepted configuration says of its numbers. From the coupling documentation's configuration; the limits and the restrictions on compositions are the project's own.
-use Rattle.std.specs.Prelude.{◌≡◌, ℕ, ◌*◌, ◌^◌, ◌≤◌, Bool, true, false, ◌&&◌, ◌||◌, not, nat_eq, nat_lt, nat_le, if◌then◌else◌, IsTrue, ℤ, pos, int_lt, int_le, unsigned_abs, List, [], ◌∷◌, ◌++◌, length, filter, map, flat_map, sum_by, slice_get, Option, Some, None}
-use Rattle.std.specs.List.{list_any, list_all}
-use Rattle.std.specs.Cmp.Lexicographic.{pointwise}
-use Rattle.std.specs.Option.{option_to_list, option_map}
-use Rattle.std.specs.Str.{bytes_eq}
-use Rattle.cpl_plan.specs.PlanWords.{each, passes, is_among, are_only, are_distinct, never_fall, numbers, provides, receives, providers, carries, have_equal_dimensions, is_member, schemes_of, schemes_of_both, feeders, data_of, components_of}
-use Rattle.cpl_plan.specs.ExchangeKinds.{exchange_kind, is_implicit}
-use Rattle.cpl_plan.specs.Needs.{is_second}
+use Rattle.std.specs.Prelude.{ℕ, ◌^◌, ◌≤◌, IsTrue, length, sum_by}
+use Rattle.cpl_plan.specs.PlanTests.{do_windows_reach, fits_method, are_names, are_parts_named_once, are_meshes_named_once, are_data_named_once, are_watches_named_once, have_one_provider, have_dimensions, have_declared_data, have_data_once, have_degrees, are_provided_declared, are_provided_once, are_received_declared, are_received_from_others, are_received_once, are_written_on_own_meshes, are_read_on_own_meshes, are_written_once, are_read_once, are_fed_once, do_maps_join, are_maps_once, are_watched_on_own_meshes, are_few_received, are_few_written, are_few_read, are_few_maps, are_in_a_scheme, are_in_one_group, are_members_declared, are_members_once, are_members_counted, do_meet_once, have_iterations, have_measures, are_measured_first, have_limits, have_accelerations, stand_by_scheme, join_two_members, are_carried, do_cross, have_kinds, are_written, are_read}
 use Rattle.plan_order.specs.NodeOrder.{IsNodeOrder}
 use Rattle.cpl_plan.specs.PlanNodes.{node_members, solved_before}
 use Rattle.cpl_plan.specs.declared.parts.PlanParts.{PlanParts}
-use Rattle.cpl_plan.specs.declared.parts.MapPlan.{MapPlan}
-use Rattle.cpl_plan.specs.declared.parts.Watch.{Watch}
-use Rattle.cpl_plan.specs.declared.parts.Exchange.{Exchange}
-use Rattle.cpl_plan.specs.declared.parts.Kind.{Kind}
-use Rattle.cpl_plan.specs.declared.parts.Kind.TheVariants.{Iterated}
-use Rattle.cpl_plan.specs.declared.parts.Scheme.{Scheme}
-use Rattle.cpl_plan.specs.declared.parts.SchemeKind.{SchemeKind}
-use Rattle.cpl_plan.specs.declared.parts.SchemeKind.TheVariants.{Multi}
-use Rattle.cpl_plan.specs.declared.parts.Measure.{Measure}
-use Rattle.cpl_plan.specs.declared.parts.Accel.{Accel}
-use Rattle.cpl_plan.specs.declared.parts.Accel.TheVariants.{None as NoAccel, Constant, Aitken}
 
 -- a count from one to a limit
 abbrev pub IsCount : (limit n : ℕ) → Type 0
 IsCount limit n = (1 ≤ n) × (n ≤ limit)
 
--- 1 to 64 bytes, each a visible character of ASCII
-abbrev pub is_name : List ℕ → Bool
-is_name bytes =
-    nat_le 1 (length bytes) && nat_le (length bytes) 64 && list_all (λ byte. nat_le 0x21 byte && nat_le byte 0x7E) bytes
-
-abbrev pub watch_names : PlanParts → List (List ℕ)
-watch_names plan = flat_map (λ part. map (λ watch. watch.name) part.watches) plan.parts
-
-abbrev pub part_names : PlanParts → List (List ℕ)
-part_names plan = map (λ part. part.name) plan.parts
-
-abbrev pub mesh_names : PlanParts → List (List ℕ)
-mesh_names plan = map (λ mesh. mesh.name) plan.meshes
-
-abbrev pub data_names : PlanParts → List (List ℕ)
-data_names plan = map (λ item. item.name) plan.data_list
-
 -- sizes and names
 pub record HasSizes (plan : PlanParts) : Type 0 where
   pub window : IsCount (10 ^ 9) plan.window
   pub end_time : IsCount (10 ^ 15) plan.end_time
-  pub windows : plan.end_time ≤ 10 ^ 6 * plan.window
+  pub windows : IsCount (10 ^ 6) plan.most_windows
+  pub windows_reach : IsTrue (do_windows_reach plan)
   pub parts : IsCount 64 (length plan.parts)
   pub meshes : length plan.meshes ≤ 64
   pub data_items : length plan.data_list ≤ 64
   pub schemes : IsCount 64 (length plan.schemes)
   pub exchanges : length plan.exchanges ≤ 256
   pub watches : sum_by (λ part. length part.watches) plan.parts ≤ 64
-  pub names : IsTrue (list_all is_name (part_names plan ++ mesh_names plan ++ data_names plan ++ watch_names plan))
-  pub parts_named_once : IsTrue (are_distinct bytes_eq (part_names plan))
-  pub meshes_named_once : IsTrue (are_distinct bytes_eq (mesh_names plan))
-  pub data_named_once : IsTrue (are_distinct bytes_eq (data_names plan))
-  pub watches_named_once : IsTrue (are_distinct bytes_eq (watch_names plan))
-
--- a mesh of this number is there
-abbrev pub is_mesh : PlanParts → ℕ → Bool
-is_mesh plan mesh = nat_lt mesh (length plan.meshes)
+  pub names : IsTrue (are_names plan)
+  pub parts_named_once : IsTrue (are_parts_named_once plan)
+  pub meshes_named_once : IsTrue (are_meshes_named_once plan)
+  pub data_named_once : IsTrue (are_data_named_once plan)
+  pub watches_named_once : IsTrue (are_watches_named_once plan)
 
 pub record HasMeshes (plan : PlanParts) : Type 0 where
-  -- each mesh is provided by one participant alone, its owner
-  pub one_provider : IsTrue (each plan.meshes (λ number mesh. are_only mesh.owner (providers plan number)))
-  pub dimensions : IsTrue (each plan.meshes (λ _ mesh. nat_eq mesh.dimensions 2 || nat_eq mesh.dimensions 3))
-  pub data_declared : IsTrue (each plan.meshes (λ _ mesh. list_all (λ d. nat_lt d (length plan.data_list)) mesh.data_list))
-  pub data_once : IsTrue (each plan.meshes (λ _ mesh. are_distinct nat_eq mesh.data_list))
-  pub degrees : IsTrue (each plan.data_list (λ _ item. nat_le item.degree 1))
-
--- a read mapping goes from a received to a provided mesh, a write mapping the other way, between meshes of as many dimensions
-abbrev pub joins_meshes : PlanParts → ℕ → MapPlan → Bool
-joins_meshes plan part mapping =
-    have_equal_dimensions plan mapping.from mapping.to
-    && (if mapping.reading then receives plan part mapping.from && provides plan part mapping.to
-    else provides plan part mapping.from && receives plan part mapping.to)
-
-abbrev pub same_flag : Bool → Bool → Bool
-same_flag true b = b
-same_flag false b = not b
-
--- two mappings of one direction with the same ends
-abbrev pub same_way : MapPlan → MapPlan → Bool
-same_way one other =
-    same_flag one.reading other.reading && nat_eq one.from other.from && nat_eq one.to other.to
-
--- a watch-point lies on a mesh of its participant, with a coordinate for each dimension
-abbrev pub lies_on_own_mesh : PlanParts → ℕ → Watch → Bool
-lies_on_own_mesh plan part watch =
-    provides plan part watch.mesh
-    && passes plan.meshes watch.mesh (λ mesh. nat_eq (length watch.at) mesh.dimensions)
-    && list_all (λ x. nat_le (unsigned_abs x) (10 ^ 12)) watch.at
-
--- the implicit schemes of which a participant is a member
-abbrev pub groups_of : PlanParts → ℕ → List ℕ
-groups_of plan part = filter (λ s. passes plan.schemes s (λ scheme. is_implicit scheme.kind)) (schemes_of plan part)
+  pub one_provider : IsTrue (have_one_provider plan)
+  pub dimensions : IsTrue (have_dimensions plan)
+  pub data_declared : IsTrue (have_declared_data plan)
+  pub data_once : IsTrue (have_data_once plan)
+  pub degrees : IsTrue (have_degrees plan)
 
 pub record HasParticipants (plan : PlanParts) : Type 0 where
-  pub provided_declared : IsTrue (each plan.parts (λ _ part. list_all (is_mesh plan) part.provides))
-  pub provided_once : IsTrue (each plan.parts (λ _ part. are_distinct nat_eq part.provides))
-  pub received_declared : IsTrue (each plan.parts (λ _ part. list_all (is_mesh plan) part.receives))
-  pub received_from_others : IsTrue (each plan.parts (λ p part. list_all (λ mesh. not (provides plan p mesh)) part.receives))
-  pub received_once : IsTrue (each plan.parts (λ _ part. are_distinct nat_eq part.receives))
-  -- entries name data of a mesh that their participant provides
-  pub written_on_own_meshes : IsTrue (each plan.parts (λ p part. list_all (λ e. provides plan p e.mesh && carries plan e.mesh e.data_id) part.writes))
-  pub read_on_own_meshes : IsTrue (each plan.parts (λ p part. list_all (λ e. provides plan p e.mesh && carries plan e.mesh e.data_id) part.reads))
-  -- data are written in one entry of all participants, and read in one entry of each
-  pub written_once : IsTrue (are_distinct nat_eq (flat_map (λ part. data_of part.writes) plan.parts))
-  pub read_once : IsTrue (each plan.parts (λ _ part. are_distinct nat_eq (data_of part.reads)))
-  -- each read entry is fed by one exchange
-  pub fed_once : IsTrue (each plan.parts (λ p part. list_all (λ e. nat_eq (length (feeders plan p e.data_id)) 1) part.reads))
-  pub maps_join : IsTrue (each plan.parts (λ p part. list_all (joins_meshes plan p) part.maps))
-  pub maps_once : IsTrue (each plan.parts (λ _ part. are_distinct same_way part.maps))
-  pub watched_on_own_meshes : IsTrue (each plan.parts (λ p part. list_all (lies_on_own_mesh plan p) part.watches))
-  pub few_received : IsTrue (each plan.parts (λ _ part. nat_le (length part.receives) 64))
-  pub few_written : IsTrue (each plan.parts (λ _ part. nat_le (length part.writes) 64))
-  pub few_read : IsTrue (each plan.parts (λ _ part. nat_le (length part.reads) 64))
-  pub few_maps : IsTrue (each plan.parts (λ _ part. nat_le (length part.maps) 64))
-  -- each participant is in a scheme, and in no implicit scheme but its group
-  pub in_a_scheme : IsTrue (each plan.parts (λ p _. nat_le 1 (length (schemes_of plan p))))
-  pub in_one_group : IsTrue (each plan.parts (λ p part. pointwise nat_eq (groups_of plan p) (option_to_list part.group)))
-
--- two members, or two and more where a scheme may have more
-abbrev pub has_members : SchemeKind → ℕ → Bool
-has_members Multi n = nat_le 2 n
-has_members _ n = nat_eq n 2
-
--- an explicit scheme does not repeat windows
-abbrev pub has_iterations : Scheme → Bool
-has_iterations scheme =
-    if is_implicit scheme.kind then nat_le 1 scheme.min && nat_le scheme.min scheme.max && nat_le scheme.max (10 ^ 3)
-    else nat_eq scheme.min 1 && nat_eq scheme.max 1
-
--- an explicit scheme has no measures, an implicit one has some
-abbrev pub has_measures : Scheme → Bool
-has_measures scheme =
-    if is_implicit scheme.kind then nat_le 1 (length scheme.measures) && nat_le (length scheme.measures) 16
-    else nat_eq (length scheme.measures) 0
-
--- the exchanges of a scheme that carry one of these data
-abbrev pub carriers : PlanParts → (scheme : ℕ) → List ℕ → List ℕ
-carriers plan scheme items =
-    filter (λ x. passes plan.exchanges x (λ e. nat_eq e.scheme scheme && is_among e.data_id items)) (numbers plan.exchanges)
-
--- a measure looks at the first exchange of its scheme that carries its data
-abbrev pub looks_at_the_first : PlanParts → ℕ → Measure → Bool
-looks_at_the_first plan scheme measure =
-    passes plan.exchanges measure.exchange (λ e. passes (carriers plan scheme (e.data_id ∷ [])) 0 (nat_eq measure.exchange))
-
-abbrev pub is_iterated : Kind → Bool
-is_iterated Iterated = true
-is_iterated _ = false
-
--- the data that exchanges carry
-abbrev pub data_carried : PlanParts → List ℕ → List ℕ
-data_carried plan xs = flat_map (λ x. option_to_list (option_map (λ e. e.data_id) (slice_get plan.exchanges x))) xs
-
--- there are some, and they are all iterated exchanges of the scheme that carry their data, by number, with at most 20 components in all
-abbrev pub are_accelerated : PlanParts → ℕ → List ℕ → Bool
-are_accelerated plan scheme over =
-    nat_le 1 (length over)
-    && pointwise nat_eq over (filter (λ x. passes plan.exchanges x (λ e. is_iterated e.kind)) (carriers plan scheme (data_carried plan over)))
-    && nat_le (sum_by (λ x. sum_by (components_of plan) (option_to_list (slice_get plan.exchanges x))) over) 20
-
--- a factor over 0, at most 1
-abbrev pub is_part_of_one : ℤ → Bool
-is_part_of_one factor = int_lt (pos 0) factor && int_le factor (pos (10 ^ 6))
-
-abbrev pub is_acceleration : PlanParts → ℕ → Scheme → Accel → Bool
-is_acceleration plan number scheme NoAccel = true
-is_acceleration plan number scheme (Constant factor over) =
-    is_implicit scheme.kind && is_part_of_one factor && are_accelerated plan number over
-is_acceleration plan number scheme (Aitken first over) =
-    is_implicit scheme.kind && is_part_of_one first && are_accelerated plan number over
+  pub provided_declared : IsTrue (are_provided_declared plan)
+  pub provided_once : IsTrue (are_provided_once plan)
+  pub received_declared : IsTrue (are_received_declared plan)
+  pub received_from_others : IsTrue (are_received_from_others plan)
+  pub received_once : IsTrue (are_received_once plan)
+  pub written_on_own_meshes : IsTrue (are_written_on_own_meshes plan)
+  pub read_on_own_meshes : IsTrue (are_read_on_own_meshes plan)
+  pub written_once : IsTrue (are_written_once plan)
+  pub read_once : IsTrue (are_read_once plan)
+  pub fed_once : IsTrue (are_fed_once plan)
+  pub maps_join : IsTrue (do_maps_join plan)
+  pub maps_once : IsTrue (are_maps_once plan)
+  pub watched_on_own_meshes : IsTrue (are_watched_on_own_meshes plan)
+  pub few_received : IsTrue (are_few_received plan)
+  pub few_written : IsTrue (are_few_written plan)
+  pub few_read : IsTrue (are_few_read plan)
+  pub few_maps : IsTrue (are_few_maps plan)
+  pub in_a_scheme : IsTrue (are_in_a_scheme plan)
+  pub in_one_group : IsTrue (are_in_one_group plan)
 
 pub record HasSchemes (plan : PlanParts) : Type 0 where
-  pub members_declared : IsTrue (each plan.schemes (λ _ scheme. list_all (λ p. nat_lt p (length plan.parts)) scheme.members))
-  pub members_once : IsTrue (each plan.schemes (λ _ scheme. are_distinct nat_eq scheme.members))
-  pub members_counted : IsTrue (each plan.schemes (λ _ scheme. has_members scheme.kind (length scheme.members)))
-  -- two participants meet in at most one scheme
-  pub meet_once : IsTrue (each plan.parts (λ p _. each plan.parts (λ q _. nat_eq p q || nat_le (length (schemes_of_both plan p q)) 1)))
-  pub iterations : IsTrue (each plan.schemes (λ _ scheme. has_iterations scheme))
-  pub measures : IsTrue (each plan.schemes (λ _ scheme. has_measures scheme))
-  pub measured_first : IsTrue (each plan.schemes (λ s scheme. list_all (looks_at_the_first plan s) scheme.measures))
-  pub limits : IsTrue (each plan.schemes (λ _ scheme. list_all (λ m. int_le (pos 0) m.limit) scheme.measures))
-  pub accelerations : IsTrue (each plan.schemes (λ s scheme. is_acceleration plan s scheme scheme.accel))
-
--- the place of the mapping between two meshes, and none where they are one
-abbrev pub is_map_place : List MapPlan → (reading : Bool) → (from to : ℕ) → Option ℕ → Bool
-is_map_place maps reading from to None = nat_eq from to
-is_map_place maps reading from to (Some place) =
-    not (nat_eq from to)
-    && passes maps place (λ m. same_flag m.reading reading && nat_eq m.from from && nat_eq m.to to)
-
--- the writer writes the data, and the write mapping goes from where it does
-abbrev pub is_written : PlanParts → Exchange → Bool
-is_written plan e =
-    passes plan.parts e.from (λ part. list_any (λ entry. nat_eq entry.data_id e.data_id
-    && is_map_place part.maps false entry.mesh e.mesh e.write_map) part.writes)
-
--- the reader reads the data, and the read mapping goes to where it does
-abbrev pub is_read : PlanParts → Exchange → Bool
-is_read plan e =
-    passes plan.parts e.to (λ part. list_any (λ entry. nat_eq entry.data_id e.data_id
-    && is_map_place part.maps true e.mesh entry.mesh e.read_map) part.reads)
-
--- the mesh is provided by one end and received by the other
-abbrev pub goes_over : PlanParts → Exchange → Bool
-goes_over plan e =
-    (provides plan e.from e.mesh && receives plan e.to e.mesh) || (provides plan e.to e.mesh && receives plan e.from e.mesh)
-
--- the kind by the table, and none where the scheme is not there
-abbrev pub kind_by_table : PlanParts → Exchange → Option Kind
-kind_by_table plan e =
-    option_map (λ scheme. exchange_kind scheme.kind (is_second scheme e.to)) (slice_get plan.schemes e.scheme)
+  pub members_declared : IsTrue (are_members_declared plan)
+  pub members_once : IsTrue (are_members_once plan)
+  pub members_counted : IsTrue (are_members_counted plan)
+  pub meet_once : IsTrue (do_meet_once plan)
+  pub iterations : IsTrue (have_iterations plan)
+  pub measures : IsTrue (have_measures plan)
+  pub measured_first : IsTrue (are_measured_first plan)
+  pub limits : IsTrue (have_limits plan)
+  pub accelerations : IsTrue (have_accelerations plan)
+  pub first_step : IsTrue (fits_method plan)
 
 pub record HasExchanges (plan : PlanParts) : Type 0 where
-  -- those of the first scheme come first
-  pub by_scheme : IsTrue (never_fall (map (λ e. e.scheme) plan.exchanges))
-  pub two_members : IsTrue (each plan.exchanges (λ _ e. not (nat_eq e.from e.to) && is_member plan e.scheme e.from && is_member plan e.scheme e.to))
-  pub carried : IsTrue (each plan.exchanges (λ _ e. carries plan e.mesh e.data_id))
-  pub crossing : IsTrue (each plan.exchanges (λ _ e. goes_over plan e))
-  pub kinds : map (λ e. Some e.kind) plan.exchanges ≡ map (kind_by_table plan) plan.exchanges
-  pub written : IsTrue (each plan.exchanges (λ _ e. is_written plan e))
-  pub read : IsTrue (each plan.exchanges (λ _ e. is_read plan e))
+  pub by_scheme : IsTrue (stand_by_scheme plan)
+  pub two_members : IsTrue (join_two_members plan)
+  pub carried : IsTrue (are_carried plan)
+  pub crossing : IsTrue (do_cross plan)
+  pub kinds : IsTrue (have_kinds plan)
+  pub written : IsTrue (are_written plan)
+  pub read : IsTrue (are_read plan)
 
 -- all that an accepted configuration says of a plan
 pub record IsValidPlan (plan : PlanParts) : Type 0 where

@@ -1,45 +1,20 @@
-ghost use Rattle.std.specs.Prelude.{◌≡◌, IfOk};
-
 use crate::parts::{Accel, DataPlan, MeshPlan, Part, PlanParts, Scheme, Watch};
-use fixed_num::{Items, Memory};
+use fixed_num::{CopyIn, Memory};
 use std::alloc::Global;
-
-/// What can be had once more in memory of its own.
-pub(crate) trait CopyIn: Drop {
-    /// An equal value.
-    fn copy_in(&self, alloc: Global) -> Result<Self, Memory>
-        ensures { IfOk result (λ copy. copy ≡ self.now) };
-}
-
-/// Equal items in memory of their own.
-fn copies<T: CopyIn>(alloc: Global, items: &Items<T>) -> Result<Items<T>, Memory>
-    ensures { IfOk result (λ copy. copy ≡ items.now) }
-{
-    let mut copies = Vec::with_capacity(alloc, items.len())?;
-    for item in items.as_slice() {
-        copies.push(item.copy_in(alloc)?)?;
-    }
-    Ok(Items::from_vec(copies))
-}
-
-/// Equal plain items in memory of their own.
-fn plain_copies<T: Copy>(alloc: Global, items: &Items<T>) -> Result<Items<T>, Memory>
-    ensures { IfOk result (λ copy. copy ≡ items.now) }
-{
-    Ok(Items::from_vec(Vec::from_slice(alloc, items.as_slice())?))
-}
 
 impl CopyIn for PlanParts {
     fn copy_in(&self, alloc: Global) -> Result<PlanParts, Memory> {
         Ok(PlanParts {
+            method: self.method,
             window: self.window,
             end_time: self.end_time,
-            parts: copies(alloc, &self.parts)?,
-            meshes: copies(alloc, &self.meshes)?,
-            data_list: copies(alloc, &self.data_list)?,
-            schemes: copies(alloc, &self.schemes)?,
-            exchanges: plain_copies(alloc, &self.exchanges)?,
-            nodes: plain_copies(alloc, &self.nodes)?,
+            most_windows: self.most_windows,
+            parts: self.parts.copy_in(alloc)?,
+            meshes: self.meshes.copy_in(alloc)?,
+            data_list: self.data_list.copy_in(alloc)?,
+            schemes: self.schemes.copy_in(alloc)?,
+            exchanges: self.exchanges.copy(alloc)?,
+            nodes: self.nodes.copy(alloc)?,
         })
     }
 }
@@ -48,12 +23,12 @@ impl CopyIn for Part {
     fn copy_in(&self, alloc: Global) -> Result<Part, Memory> {
         Ok(Part {
             name: self.name.copy(alloc)?,
-            provides: plain_copies(alloc, &self.provides)?,
-            receives: plain_copies(alloc, &self.receives)?,
-            writes: plain_copies(alloc, &self.writes)?,
-            reads: plain_copies(alloc, &self.reads)?,
-            maps: plain_copies(alloc, &self.maps)?,
-            watches: copies(alloc, &self.watches)?,
+            provides: self.provides.copy(alloc)?,
+            receives: self.receives.copy(alloc)?,
+            writes: self.writes.copy(alloc)?,
+            reads: self.reads.copy(alloc)?,
+            maps: self.maps.copy(alloc)?,
+            watches: self.watches.copy_in(alloc)?,
             group: self.group,
         })
     }
@@ -64,7 +39,7 @@ impl CopyIn for Watch {
         Ok(Watch {
             name: self.name.copy(alloc)?,
             mesh: self.mesh,
-            at: plain_copies(alloc, &self.at)?,
+            at: self.at.copy(alloc)?,
         })
     }
 }
@@ -75,7 +50,7 @@ impl CopyIn for MeshPlan {
             name: self.name.copy(alloc)?,
             dimensions: self.dimensions,
             owner: self.owner,
-            data_list: plain_copies(alloc, &self.data_list)?,
+            data_list: self.data_list.copy(alloc)?,
         })
     }
 }
@@ -94,10 +69,10 @@ impl CopyIn for Scheme {
     fn copy_in(&self, alloc: Global) -> Result<Scheme, Memory> {
         Ok(Scheme {
             kind: self.kind,
-            members: plain_copies(alloc, &self.members)?,
+            members: self.members.copy(alloc)?,
             min: self.min,
             max: self.max,
-            measures: plain_copies(alloc, &self.measures)?,
+            measures: self.measures.copy(alloc)?,
             accel: self.accel.copy_in(alloc)?,
         })
     }
@@ -109,11 +84,11 @@ impl CopyIn for Accel {
             Accel::None => Ok(Accel::None),
             Accel::Constant { factor, over } => Ok(Accel::Constant {
                 factor: *factor,
-                over: plain_copies(alloc, over)?,
+                over: over.copy(alloc)?,
             }),
             Accel::Aitken { first, over } => Ok(Accel::Aitken {
                 first: *first,
-                over: plain_copies(alloc, over)?,
+                over: over.copy(alloc)?,
             }),
         }
     }

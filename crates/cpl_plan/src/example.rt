@@ -1,18 +1,31 @@
-ghost use Rattle.std.specs.Prelude.{◌≡◌, [], ◌∷◌, Some};
+ghost use Rattle.std.specs.Prelude.{◌≡◌, ◌<◌, false, [], ◌∷◌, Some, None, All, IsTrue, Contains, length, map};
 ghost use Rattle.plan_order.specs.declared.node.Node.TheVariants.{Single, Group};
-ghost use Rattle.cpl_plan.specs.ValidPlan.{IsValidPlan, HasSizes, HasMeshes, HasParticipants, HasSchemes, HasExchanges};
-ghost use Rattle.cpl_plan.specs.BrokenPlans.{one_name_for_two, two_providers, received_by_its_provider, mapped_from_elsewhere, fed_twice, never_fed, unmapped, unwritten, lagging_second, scheme_of_one, scheme_with_itself, measured_explicit, unmeasured_implicit, met_twice};
+ghost use Rattle.cpl_plan.specs.ValidPlan.{IsValidPlan};
+ghost use Rattle.cpl_plan.specs.PlanFacts.{Fact, broken_facts};
+ghost use Rattle.cpl_plan.specs.BrokenPlans.{plans_without, broken_with, nodes_out_of_order, greater_first};
+ghost use Rattle.cpl_plan.specs.SmallPlans.{first_step_plan, iterated_plan, serial_iterated_plan, fan, wide};
+ghost use Rattle.plan_order.specs.NodeOrder.{IsNodeOrder};
 ghost use Rattle.cpl_plan.specs.Needs.{needs};
-ghost use Rattle.cpl_plan.specs.Windows.{window_count, window_span};
+ghost use Rattle.cpl_plan.specs.Windows.{is_last_window, is_window, latest_end, window_end, window_start, windows_to_reach};
 ghost use Rattle.cpl_plan.specs.PlanWords.{components_on};
 ghost use Rattle.cpl_plan.specs.PlanNodes.{node_members, solved_before};
 ghost use Rattle.cpl_plan.specs.ExamplePlan.{example_plan, two_participants, completed, posted};
 
-/// A plan with each kind of scheme is valid, and so is a plan of two participants: "for every valid
-/// plan" speaks of something.
+/// A plan with each kind of scheme is valid, and so are small ones: of two participants under either
+/// implicit scheme, of data that go to two readers, of nearly as many accelerated components as there
+/// may be, and of windows that the first participant makes. "For every valid plan" speaks of something.
 pub fn examples_are_valid()
     ensures each_kind { IsValidPlan example_plan }
-    ensures two { IsValidPlan two_participants }
+    ensures iterated { IsValidPlan iterated_plan }
+    ensures serial_iterated { IsValidPlan serial_iterated_plan }
+    ensures fan { IsValidPlan fan }
+    ensures wide { IsValidPlan (wide 6) }
+    ensures first_step { IsValidPlan first_step_plan }
+{}
+
+/// The plan of two participants is valid.
+pub fn two_participants_are_valid()
+    ensures { IsValidPlan two_participants }
 {}
 
 /// The needs of the example's participants for the take of window 2 and iteration 3, as worked out
@@ -37,10 +50,15 @@ pub fn worked_needs()
 /// What the readers say of the example, as worked out by hand: 25 ticks in windows of 10, the
 /// components of a scalar and of a vector in two and in three dimensions, and the nodes.
 pub fn worked_readings()
-    ensures windows { window_count example_plan.window example_plan.end_time ≡ 3 }
-    ensures first_span { window_span 10 25 1 ≡ (0, 10) }
-    ensures second_span { window_span 10 25 2 ≡ (10, 20) }
-    ensures last_span { window_span 10 25 3 ≡ (20, 25) }
+    ensures windows { windows_to_reach 10 25 ≡ 3 }
+    ensures first_span { (window_start example_plan [] 1 ≡ Some 0)
+        × (window_end example_plan [] 1 ≡ Some 10) }
+    ensures second_span { (window_start example_plan [] 2 ≡ Some 10)
+        × (window_end example_plan [] 2 ≡ Some 20) }
+    ensures last_span { (window_start example_plan [] 3 ≡ Some 20)
+        × (window_end example_plan [] 3 ≡ Some 25) }
+    ensures last { IsTrue (is_last_window example_plan [] 3) }
+    ensures no_window { is_window example_plan [] 4 ≡ false }
     ensures scalar { components_on example_plan 0 0 ≡ Some 1 }
     ensures scalar_in_space { components_on example_plan 4 6 ≡ Some 1 }
     ensures vector_in_a_plane { components_on example_plan 2 3 ≡ Some 2 }
@@ -51,17 +69,34 @@ pub fn worked_readings()
     ensures before { solved_before example_plan ≡ (7, 0) ∷ [] }
 {}
 
-/// Plans that differ from a valid one in one place are not valid.
+/// What is told of windows that the first participant makes, of at most 4 ticks until time 10, as
+/// worked out by hand: it has ended two at 4 and 8, and then a third at 10.
+pub fn worked_first_steps()
+    ensures first { (window_start first_step_plan (4 ∷ 8 ∷ []) 1 ≡ Some 0)
+        × (window_end first_step_plan (4 ∷ 8 ∷ []) 1 ≡ Some 4) }
+    ensures second { (window_start first_step_plan (4 ∷ 8 ∷ []) 2 ≡ Some 4)
+        × (window_end first_step_plan (4 ∷ 8 ∷ []) 2 ≡ Some 8) }
+    ensures third { (window_start first_step_plan (4 ∷ 8 ∷ []) 3 ≡ Some 8)
+        × (window_end first_step_plan (4 ∷ 8 ∷ []) 3 ≡ None) }
+    ensures more { (IsTrue (is_window first_step_plan (4 ∷ 8 ∷ []) 3))
+        × (is_last_window first_step_plan (4 ∷ 8 ∷ []) 3 ≡ false)
+        × (latest_end first_step_plan 8 ≡ 10) }
+    ensures last { IsTrue (is_last_window first_step_plan (4 ∷ 8 ∷ 10 ∷ []) 3) }
+    ensures no_more { is_window first_step_plan (4 ∷ 8 ∷ 10 ∷ []) 4 ≡ false }
+    ensures untold { is_window first_step_plan (4 ∷ []) 3 ≡ false }
+{}
+
+/// For each fact of a valid plan that a test tells there are plans that differ from a valid one in one
+/// place, in which it does not hold, and no other fact fails but where it cannot fail alone; they are
+/// not valid. Nodes in another order are none that a valid plan has.
 pub fn broken_plans_are_not_valid()
-    ensures names { ¬ HasSizes one_name_for_two }
-    ensures providers { ¬ HasMeshes two_providers }
-    ensures receivers { ¬ HasParticipants received_by_its_provider }
-    ensures mappings { ¬ HasParticipants mapped_from_elsewhere }
-    ensures feeding { (¬ HasParticipants fed_twice) × (¬ HasParticipants never_fed) }
-    ensures mapped { ¬ HasExchanges unmapped }
-    ensures written { ¬ HasExchanges unwritten }
-    ensures kinds { ¬ HasExchanges lagging_second }
-    ensures members { (¬ HasSchemes scheme_of_one) × (¬ HasSchemes scheme_with_itself) }
-    ensures measures { (¬ HasSchemes measured_explicit) × (¬ HasSchemes unmeasured_implicit) }
-    ensures meetings { ¬ HasSchemes met_twice }
+    ensures broken { (fact : Fact) → map broken_facts (plans_without fact)
+        ≡ map (λ _. broken_with fact) (plans_without fact) }
+    ensures some { (fact : Fact) → 0 < length (plans_without fact) }
+    ensures this { (fact : Fact) → Contains (broken_with fact) fact }
+    ensures invalid { (fact : Fact) → All (λ plan. ¬ IsValidPlan plan) (plans_without fact) }
+    ensures orders { All (λ nodes. ¬ IsNodeOrder (node_members two_participants)
+        (solved_before two_participants) nodes) nodes_out_of_order }
+    ensures least_first { ¬ IsNodeOrder (node_members example_plan)
+        (solved_before example_plan) greater_first }
 {}

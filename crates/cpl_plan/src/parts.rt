@@ -4,10 +4,14 @@ use plan_order::{DataId, ExchangeId, MeshId, Node, PartId, SchemeId};
 /// All that a plan has: an accepted configuration in numbers.
 #[derive(Debug, Drop)]
 pub struct PlanParts {
-    /// The size of a window, in ticks.
+    /// How windows are made.
+    pub method: WindowMethod,
+    /// The size of a window, in ticks: the greatest one where the first participant makes them.
     pub window: u64,
-    /// When the simulation ends, in ticks.
+    /// When the simulation ends at the latest, in ticks.
     pub end_time: u64,
+    /// How many windows there are, where the first participant makes them at most.
+    pub most_windows: u32,
     /// The participants.
     pub parts: Items<Part>,
     /// The meshes.
@@ -20,6 +24,15 @@ pub struct PlanParts {
     pub exchanges: Items<Exchange>,
     /// The nodes of a window, in the order in which they are solved.
     pub nodes: Items<Node>,
+}
+
+/// How windows are made.
+#[derive(Clone, Copy, Debug, PartialEq, Eq)]
+pub enum WindowMethod {
+    /// All have one size, but the last, which ends with the simulation.
+    Fixed,
+    /// The first participant of the one scheme makes a step, and that step is the window.
+    FirstParticipant,
 }
 
 /// A participant.
@@ -60,6 +73,9 @@ pub struct MapPlan {
     pub to: MeshId,
     /// Whether sums are kept; values are kept otherwise.
     pub conservative: bool,
+    /// Whether it looks for the nearest point on the edges between vertices; for the nearest vertex
+    /// otherwise.
+    pub projection: bool,
 }
 
 /// A place at which a participant's data are reported at the end of each window.

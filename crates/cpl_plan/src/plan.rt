@@ -1,16 +1,15 @@
-ghost use Rattle.std.specs.Prelude.{◌≡◌, ◌<◌, ◌≤◌, ◌^◌, length, slice_get, Some, IfOk};
+ghost use Rattle.std.specs.Prelude.{◌≡◌, ◌<◌, ◌≤◌, ◌^◌, ℕ, List, length, slice_get, Some, IfOk};
 ghost use Rattle.std.specs.Option.{option_map};
 ghost use Rattle.cpl_plan.specs.ValidPlan.{IsValidPlan};
-ghost use Rattle.cpl_plan.specs.Windows.{IsLeastToReach, window_count, window_span};
+ghost use Rattle.cpl_plan.specs.Windows.{IsLeastToReach, window_end, window_start};
 ghost use Rattle.cpl_plan.specs.Needs.{needs};
 ghost use Rattle.cpl_plan.specs.PlanWords.{components_on};
 
-use crate::copies::CopyIn;
 use crate::needs::need_at;
-use crate::parts::{DataPlan, Exchange, MeshPlan, Part, PlanParts, Scheme};
-use crate::windows::{count, span};
+use crate::parts::{DataPlan, Exchange, MeshPlan, Part, PlanParts, Scheme, WindowMethod};
+use crate::windows::span;
 use crate::words::Need;
-use fixed_num::{Memory, Name};
+use fixed_num::{CopyIn, Memory, Name};
 use plan_order::{DataId, ExchangeId, MeshId, Node, PartId, SchemeId};
 use std::alloc::Global;
 use std::marker::Model;
@@ -50,10 +49,17 @@ impl Plan {
         })
     }
 
+    /// All that the plan says. It is valid, and so stands in what contracts see of the plan itself.
+    pub fn parts(&self) -> &PlanParts
+        ensures value { result.now ≡ self.now }
+        ensures valid { IsValidPlan self.now }
+    {
+        &self.parts
+    }
+
     /// How many participants there are.
     pub fn part_count(&self) -> u32
-        ensures count { result ≡ length self.now.parts }
-        ensures valid { IsValidPlan self.now }
+        ensures { result ≡ length self.now.parts }
     {
         self.parts.parts.len() as u32
     }
@@ -165,27 +171,46 @@ impl Plan {
         self.parts.nodes.as_slice()
     }
 
-    /// When the simulation ends, in ticks.
+    /// When the simulation ends at the latest, in ticks.
     pub fn end_time(&self) -> u64
         ensures { result ≡ self.now.end_time }
     {
         self.parts.end_time
     }
 
-    /// How many windows there are: as few as reach the end time.
-    pub fn window_count(&self) -> u32
-        ensures count { result ≡ window_count self.now.window self.now.end_time }
-        ensures least { IsLeastToReach self.now.window self.now.end_time result }
-        ensures range { (1 ≤ result) × (result ≤ 10 ^ 6) }
+    /// How windows are made.
+    pub fn window_method(&self) -> WindowMethod
+        ensures { result ≡ self.now.method }
     {
-        count(self.parts.window, self.parts.end_time)
+        self.parts.method
     }
 
-    /// From when to when window `w` goes, in ticks.
+    /// The size of a window, in ticks: the greatest one where the first participant makes them.
+    pub fn window_most(&self) -> u64
+        ensures size { result ≡ self.now.window }
+        ensures range { (1 ≤ result) × (result ≤ 10 ^ 9) }
+    {
+        self.parts.window
+    }
+
+    /// How many windows there are, where the first participant makes them at most. Those of one size
+    /// are as few as reach the end time.
+    pub fn window_count(&self) -> u32
+        ensures count { result ≡ self.now.most_windows }
+        ensures least { self.now.method ≡ WindowMethod.Fixed
+            → IsLeastToReach self.now.window self.now.end_time result }
+        ensures range { (1 ≤ result) × (result ≤ 10 ^ 6) }
+    {
+        self.parts.most_windows
+    }
+
+    /// From when to when window `w` goes, in ticks, where windows have one size.
     pub fn window_span(&self, w: u32) -> (u64, u64)
+        requires fixed { self.now.method ≡ WindowMethod.Fixed }
         requires from { 1 ≤ w }
-        requires to { w ≤ window_count self.now.window self.now.end_time }
-        ensures { result ≡ window_span self.now.window self.now.end_time w }
+        requires to { w ≤ self.now.most_windows }
+        ensures start { (ends : List ℕ) → window_start self.now ends w ≡ Some result.0 }
+        ensures end { (ends : List ℕ) → window_end self.now ends w ≡ Some result.1 }
     {
         span(self.parts.window, self.parts.end_time, w)
     }

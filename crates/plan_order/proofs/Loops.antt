@@ -15,7 +15,7 @@ pub in_cons : {X : Type 0} (y : X) (xs : List X) (x : X) → Contains (y ∷ xs)
 in_cons y xs x (zero, below, is) = inl is
 in_cons y xs x (suc k, below, is) = inr (k, omega (arith, below), is)
 
-below_or_more : (j k : ℕ) → (j < k) ⊎ ((j ≡ k) ⊎ (k < j))
+pub below_or_more : (j k : ℕ) → (j < k) ⊎ ((j ≡ k) ⊎ (k < j))
 below_or_more zero zero = inr (inl refl)
 below_or_more zero (suc k) = inl (omega arith)
 below_or_more (suc j) zero = inr (inr (omega arith))
@@ -37,7 +37,7 @@ above xs k (suc j) y within more below is =
     (j, omega (arith, length-remove xs k within), get_or-remove_above xs k y j (omega arith) within ∙ (ap (λ i. get_or xs i y) (omega arith) ∙ is))
 
 -- what is in a list is the element that is taken out, or is still in it
-in_remove : {X : Type 0} (xs : List X) (k : ℕ) (z : X) → k < length xs → get_or xs k z ≡ z → (y : X) → Contains xs y → Contains (remove xs k) y ⊎ (y ≡ z)
+pub in_remove : {X : Type 0} (xs : List X) (k : ℕ) (z : X) → k < length xs → get_or xs k z ≡ z → (y : X) → Contains xs y → Contains (remove xs k) y ⊎ (y ≡ z)
 in_remove xs k z within at y (j, below, is) =
     elim (below_or_more j k) [
       | inl less ↦ inl (j, omega (arith, length-remove xs k within), get_or-remove_below xs k y j less within ∙ is)

@@ -31,7 +31,7 @@ is_same (Group g) = eq-eqb g g refl
 abbrev pub placed_in : List Node → Node → Bool
 placed_in placed x = list_any (λ y. same_node y x) placed
 
-placed_is : (placed : List Node) (x : Node) → placed_in placed x ≡ true → Contains placed x
+pub placed_is : (placed : List Node) (x : Node) → placed_in placed x ≡ true → Contains placed x
 placed_is [] x is = absurd (false≢true is)
 placed_is (y ∷ placed) x is =
     elim (or_cases (same_node y x) (placed_in placed x) is) [
@@ -39,7 +39,7 @@ placed_is (y ∷ placed) x is =
       | inr rest ↦ tail_in y placed x (placed_is placed x rest)
     ]
 
-is_placed : (placed : List Node) (x : Node) → Contains placed x → placed_in placed x ≡ true
+pub is_placed : (placed : List Node) (x : Node) → Contains placed x → placed_in placed x ≡ true
 is_placed [] x inside = absurd (omega (arith, inside.1))
 is_placed (y ∷ placed) x inside =
     elim (in_cons y placed x inside) [
@@ -75,12 +75,23 @@ module _ (members : Node → List ℕ) (pairs : List (ℕ × ℕ)) (nodes : List
             [ true ↦ refl | false ↦ found_in x y list pair rest from to ]
       ]
 
+  pub found_pair : (x y : Node) (list : List (ℕ × ℕ)) → list_any (λ pair. is_in (members x) pair.0 && is_in (members y) pair.1) list ≡ true
+      → (pair : ℕ × ℕ) × Contains list pair × Contains (members x) pair.0 × Contains (members y) pair.1
+  found_pair x y [] is = absurd (false≢true is)
+  found_pair x y (pair ∷ list) is =
+      elim (or_cases (is_in (members x) pair.0 && is_in (members y) pair.1) (list_any (λ p. is_in (members x) p.0 && is_in (members y) p.1) list) is) [
+        | inl here ↦
+            let both = and_parts (is_in (members x) pair.0) (is_in (members y) pair.1) here in
+            (pair, head_in pair list, in_from_is_in (members x) pair.0 both.0, in_from_is_in (members y) pair.1 both.1)
+        | inr rest ↦ let later = found_pair x y list rest in (later.0, tail_in pair list later.0 later.1, later.2, later.3)
+      ]
+
   module _ (all : (x : Node) → 0 < length (members x) → Contains nodes x) where
     implied : (t s : Bool) → (not t || s) ≡ true → t ≡ true → s ≡ true
     implied true s either is = either
     implied false s either is = absurd (false≢true is)
 
-    ready_told : (placed : List Node) (y : Node) → is_ready placed y ≡ true → IsReady members pairs placed y
+    pub ready_told : (placed : List Node) (y : Node) → is_ready placed y ≡ true → IsReady members pairs placed y
     ready_told placed y is =
         let both = and_parts (nat_lt 0 (length (members y)) && not (placed_in placed y)) (list_all (λ x. not (stands x y) || placed_in placed x) nodes) is in
         let own = and_parts (nat_lt 0 (length (members y))) (not (placed_in placed y)) both.0 in
@@ -93,7 +104,7 @@ module _ (members : Node → List ℕ) (pairs : List (ℕ × ℕ)) (nodes : List
               placed_is placed other (implied (stands other y) (placed_in placed other) either (found_in other y pairs before.pair before.listed before.from before.to));
         }
 
-    ready_tested : (placed : List Node) (y : Node) → IsReady members pairs placed y → is_ready placed y ≡ true
+    pub ready_tested : (placed : List Node) (y : Node) → IsReady members pairs placed y → is_ready placed y ≡ true
     ready_tested placed y ready =
         and_from (nat_lt 0 (length (members y)) && not (placed_in placed y)) (list_all (λ x. not (stands x y) || placed_in placed x) nodes)
         (and_from (nat_lt 0 (length (members y))) (not (placed_in placed y)) (lt-ltb 0 (length (members y)) ready.is_node)
@@ -104,22 +115,11 @@ module _ (members : Node → List ℕ) (pairs : List (ℕ × ℕ)) (nodes : List
         one x =
             elim (cases_Bool (stands x y)) [
               | inl holds ↦
-                  let pair = found_pair x pairs holds in
+                  let pair = found_pair x y pairs holds in
                   ap (λ t. not t || placed_in placed x) holds
                   ∙ is_placed placed x (ready.released x (record { pair = pair.0; listed = pair.1; from = pair.2; to = pair.3 }))
               | inr fails ↦ ap (λ t. not t || placed_in placed x) fails
             ]
-          where
-            found_pair : (x : Node) (list : List (ℕ × ℕ)) → list_any (λ pair. is_in (members x) pair.0 && is_in (members y) pair.1) list ≡ true
-                → (pair : ℕ × ℕ) × Contains list pair × Contains (members x) pair.0 × Contains (members y) pair.1
-            found_pair x [] is = absurd (false≢true is)
-            found_pair x (pair ∷ list) is =
-                elim (or_cases (is_in (members x) pair.0 && is_in (members y) pair.1) (list_any (λ p. is_in (members x) p.0 && is_in (members y) p.1) list) is) [
-                  | inl here ↦
-                      let both = and_parts (is_in (members x) pair.0) (is_in (members y) pair.1) here in
-                      (pair, head_in pair list, in_from_is_in (members x) pair.0 both.0, in_from_is_in (members y) pair.1 both.1)
-                  | inr rest ↦ let later = found_pair x list rest in (later.0, tail_in pair list later.0 later.1, later.2, later.3)
-                ]
 
     goes_told : (placed order : List Node) → goes_on placed order ≡ true → GoesOn members pairs placed order
     goes_told placed [] is = λ node has. placed_is placed node (All-contains (λ x. placed_in placed x ≡ true) nodes node (AllPass-from_list_all (placed_in placed) nodes is) (all node has))

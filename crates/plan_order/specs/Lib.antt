@@ -4,3 +4,4 @@ pub mod GroupTests
 pub mod Groups
 pub mod Heads
 pub mod NodeOrder
+pub mod Renaming

@@ -1,8 +1,9 @@
 //! What is true of the order of nodes, by the definitions alone.
 
-ghost use Rattle.std.specs.Prelude.{◌≡◌, ℕ, ◌<◌, List, ◌∷◌, ◌++◌, length, Contains};
+ghost use Rattle.std.specs.Prelude.{◌≡◌, ℕ, ◌<◌, List, ◌∷◌, ◌++◌, length, map, Contains};
 ghost use Rattle.plan_order.specs.Cycle.{HasCycle};
 ghost use Rattle.plan_order.specs.NodeOrder.{first_member, StandsBefore, IsNodeOrder};
+ghost use Rattle.plan_order.specs.Renaming.{IsRenaming, IsRenumbering, renumbered};
 ghost use Rattle.plan_order.specs.declared.node.Node.{Node};
 
 /// In an order stand the nodes and nothing else, each once, after all nodes that stand before it.
@@ -33,4 +34,22 @@ pub fn order_is_the_only_one()
 pub fn cycle_has_no_order()
     ensures { (members : Node → List ℕ) (pairs : List (ℕ × ℕ)) (order : List Node)
         → HasCycle members pairs → ¬ IsNodeOrder members pairs order }
+{}
+
+/// Nodes of which there is a list have an order where the pairs have no cycle.
+pub fn no_cycle_has_an_order()
+    ensures { (members : Node → List ℕ) (pairs : List (ℕ × ℕ)) (nodes : List Node)
+        → ((node : Node) → 0 < length (members node) → Contains nodes node)
+        → ¬ HasCycle members pairs → (order : List Node) × IsNodeOrder members pairs order }
+{}
+
+/// An order stays one where nodes have other names, or participants other numbers in the same order.
+pub fn names_do_not_matter()
+    ensures renamed { (members members' : Node → List ℕ) (pairs pairs' : List (ℕ × ℕ))
+        (name : Node → Node) (order : List Node) → IsRenaming members pairs members' pairs' name
+        → IsNodeOrder members pairs order → IsNodeOrder members' pairs' (map name order) }
+    ensures renumbered { (members members' : Node → List ℕ) (pairs : List (ℕ × ℕ)) (number : ℕ → ℕ)
+        (name : Node → Node) (order : List Node) → IsRenumbering members members' number name
+        → IsNodeOrder members pairs order
+        → IsNodeOrder members' (renumbered number pairs) (map name order) }
 {}

@@ -62,58 +62,8 @@ fn is_cycle(
 }
 
 #[test]
-fn the_least_first_member_goes_first(rt: HostRuntime) -> Result<(), Fail> {
+fn the_least_first_member_that_waits_for_none_goes_first(rt: HostRuntime) -> Result<(), Fail> {
     let alloc = rt.alloc();
-    is_order(&rt, alloc, 0, &[], &[], &[])?;
-    is_order(
-        &rt,
-        alloc,
-        4,
-        &[&[3, 1]],
-        &[],
-        &[Single(0), Single(2), Group(0)],
-    )?;
-    is_order(
-        &rt,
-        alloc,
-        5,
-        &[&[4, 0], &[2, 1]],
-        &[],
-        &[Group(1), Single(3), Group(0)],
-    )?;
-    Ok(())
-}
-
-#[test]
-fn pairs_come_in_their_order(rt: HostRuntime) -> Result<(), Fail> {
-    let alloc = rt.alloc();
-    let chain = [Single(3), Single(2), Single(1), Single(0)];
-    is_order(&rt, alloc, 4, &[], &[(3, 2), (2, 1), (1, 0)], &chain)?;
-    let diamond = [Single(3), Single(1), Single(2), Single(0)];
-    is_order(
-        &rt,
-        alloc,
-        4,
-        &[],
-        &[(3, 1), (3, 2), (1, 0), (2, 0)],
-        &diamond,
-    )?;
-    is_order(
-        &rt,
-        alloc,
-        3,
-        &[],
-        &[(1, 0), (1, 0)],
-        &[Single(1), Single(0), Single(2)],
-    )?;
-    is_order(
-        &rt,
-        alloc,
-        4,
-        &[],
-        &[(3, 0)],
-        &[Single(1), Single(2), Single(3), Single(0)],
-    )?;
     is_order(
         &rt,
         alloc,
@@ -121,16 +71,12 @@ fn pairs_come_in_their_order(rt: HostRuntime) -> Result<(), Fail> {
         &[&[0, 3], &[4, 1]],
         &[(1, 3)],
         &[Single(2), Group(1), Group(0)],
-    )?;
-    Ok(())
+    )
 }
 
 #[test]
-fn cycles_are_told_at_their_last_pair(rt: HostRuntime) {
+fn a_cycle_is_told_at_its_last_pair(rt: HostRuntime) {
     let alloc = rt.alloc();
-    is_cycle(&rt, alloc, 4, &[], &[(0, 1), (1, 2), (2, 0), (3, 0)], 2);
-    is_cycle(&rt, alloc, 3, &[], &[(0, 1), (1, 1)], 1);
-    is_cycle(&rt, alloc, 3, &[&[0, 2]], &[(1, 0), (2, 0)], 1);
     is_cycle(
         &rt,
         alloc,

@@ -1,10 +1,10 @@
 ghost use Rattle.std.specs.Prelude.{◌≡◌, Some, [], ◌∷◌, IfOk, slice_get};
 ghost use Rattle.cpl_plan.specs.ExamplePlan.{two_participants};
 
-use crate::example::examples_are_valid;
+use crate::example::two_participants_are_valid;
 use crate::{
     Accel, DataPlan, Exchange, Kind, MapPlan, MeshPlan, Node, Part, PartId, Plan, PlanEntry,
-    PlanParts, Scheme, SchemeKind, Watch,
+    PlanParts, Scheme, SchemeKind, Watch, WindowMethod,
 };
 use fixed_num::{Items, Memory, Name};
 use std::alloc::Global;
@@ -13,7 +13,7 @@ use std::alloc::Global;
 pub fn two_participants(alloc: Global) -> Result<Plan, Memory>
     ensures { IfOk result (λ plan. plan ≡ two_participants) }
 {
-    examples_are_valid();
+    two_participants_are_valid();
     Ok(Plan::from_parts(parts_of_two(alloc)?))
 }
 
@@ -21,8 +21,10 @@ fn parts_of_two(alloc: Global) -> Result<PlanParts, Memory>
     ensures { IfOk result (λ parts. parts ≡ two_participants) }
 {
     Ok(PlanParts {
+        method: WindowMethod::Fixed,
         window: 10,
         end_time: 25,
+        most_windows: 3,
         parts: participants(alloc)?,
         meshes: meshes(alloc)?,
         data_list: data_list(alloc)?,
@@ -108,6 +110,7 @@ fn reader(alloc: Global) -> Result<Part, Memory>
         from: 0,
         to: 1,
         conservative: false,
+        projection: false,
     };
     Ok(Part {
         name: name(alloc, "B")?,
