@@ -1,30 +1,24 @@
 -- When new components become the state, and when the step faults.
-use Rattle.std.proofs.Common.{◌≡◌, ℕ, ◌+◌, ◌<◌, ◌^◌, true, false, List, [], ◌∷◌, ◌++◌, length, get_or, map, take, All, ℤ, pos, unsigned_abs, Option, arith, refl, sym, ap, subst, append_assoc, ◌∙◌}
+use Rattle.std.proofs.Common.{◌≡◌, ℕ, ◌+◌, ◌<◌, true, false, List, [], ◌∷◌, ◌++◌, length, get_or, map, take, All, ℤ, pos, Option, arith, refl, sym, ap, subst, append_assoc, ◌∙◌}
 use mir.Syntax.{w64}
 use mir.Val.{to_z, of_z}
 use Rattle.std.specs.List.{list_all, range_with_len}
-use Rattle.std.proofs.lemmas.Bool.Decides.{nat_tests}
 use Rattle.std.proofs.lemmas.List.{map-id, map_more}
 use Rattle.std.proofs.lemmas.List.FromFn.{map-range_with_len_more, get_or-map-range_with_len, length-map-range_with_len}
 use Rattle.std.proofs.lemmas.List.Elements.{All-head, All-tail, All-map, All-push}
 use Rattle.std.proofs.lemmas.List.Folds.{list_all_at, list_all-map, list_all-append}
-use Rattle.fixed_num.specs.Numbers.{IsValue}
+use Rattle.fixed_num.specs.Numbers.{IsValue, is_value}
+use Rattle.fixed_num.proofs.ValueTests.{is_value-true, is_value-false}
 use Rattle.solver_trait.specs.Behaviour.{goes_on, faults}
 use Rattle.line_solvers.specs.declared.case.RowParts.{RowParts}
 use Rattle.line_solvers.specs.Components.{component}
 use Rattle.line_solvers.specs.RowsStep.{row_component, rows_components}
-use Rattle.line_solvers.specs.Checked.{is_value, reaches, written, checked}
+use Rattle.line_solvers.specs.Checked.{reaches, written, checked}
 use Rattle.line_solvers.proofs.Sums.{value_back}
-
-true_from_value : (units : ℤ) → IsValue units → is_value units ≡ true
-true_from_value units h = grind (arith, nat_tests)
-
-pub false_from_no_value : (units : ℤ) → (IsValue units → ⊥) → is_value units ≡ false
-false_from_no_value units h = let over : 10 ^ 13 < unsigned_abs units = omega arith in grind (arith, nat_tests)
 
 pub list_all-values : (components : List ℤ) → All IsValue components → list_all is_value components ≡ true
 list_all-values [] values = refl
-list_all-values (x ∷ xs) values = rw (true_from_value x (All-head IsValue x xs values)) (list_all-values xs (All-tail IsValue x xs values))
+list_all-values (x ∷ xs) values = rw (is_value-true x (All-head IsValue x xs values)) (list_all-values xs (All-tail IsValue x xs values))
 
 -- components that are Values become the state, unless one reaches the bound
 pub checked-goes : (forbid : Option ℕ) (out : List ℕ) (components : List ℤ) → All IsValue components → reaches forbid components ≡ false
@@ -56,7 +50,7 @@ pub loop-no_value : (f : ℕ → ℤ) (n i : ℕ) → i < n → (IsValue (f i) �
 loop-no_value f n i h no_value =
     let at : get_or (map f (range_with_len 0 n)) i (pos 0) ≡ f i = get_or-map-range_with_len f 0 n i i (pos 0) h (omega arith) in
     let within : i < length (map f (range_with_len 0 n)) = omega (arith, h, length-map-range_with_len f 0 n) in
-    list_all_at is_value (map f (range_with_len 0 n)) i (pos 0) within (rw at (false_from_no_value (f i) no_value))
+    list_all_at is_value (map f (range_with_len 0 n)) i (pos 0) within (rw at (is_value-false (f i) no_value))
 
 -- one component more
 pub loop_more : (f : ℕ → ℤ) (i : ℕ) → map f (range_with_len 0 (i + 1)) ≡ map f (range_with_len 0 i) ++ f i ∷ []
@@ -82,7 +76,7 @@ push_values old new v value pushed before =
 pub row-no_value : (rows : List RowParts) (state inputs : List ℤ) (i : ℕ) (row : RowParts) → i < length rows → row ≡ get_or rows i row
     → (IsValue (row_component state inputs row) → ⊥) → list_all is_value (rows_components rows state inputs) ≡ false
 row-no_value rows state inputs i row h is no_value =
-    let fails = false_from_no_value (row_component state inputs row) no_value in
+    let fails = is_value-false (row_component state inputs row) no_value in
     let at_row : is_value (row_component state inputs (get_or rows i row)) ≡ false = rw (← is) fails in
     list_all-map is_value (row_component state inputs) rows ∙ list_all_at (λ (r : RowParts). is_value (row_component state inputs r)) rows i row h at_row
 
@@ -108,8 +102,8 @@ written-values components out places values =
     All-map IsValue (component components) out (λ k d h. component-value components (get_or out k d) (places k d h) values)
 
 -- one number more
-pub range_more : (n : ℕ) → range_with_len 0 (n + 1) ≡ range_with_len 0 n ++ n ∷ []
-range_more n =
-    sym (map-id (range_with_len 0 (n + 1)))
-    ∙ map-range_with_len_more (λ (k : ℕ). k) 0 n n (omega arith)
-    ∙ ap (λ (ks : List ℕ). ks ++ n ∷ []) (map-id (range_with_len 0 n))
+pub range_more : (first n : ℕ) → range_with_len first (n + 1) ≡ range_with_len first n ++ (first + n) ∷ []
+range_more first n =
+    sym (map-id (range_with_len first (n + 1)))
+    ∙ map-range_with_len_more (λ (k : ℕ). k) first n (first + n) (omega arith)
+    ∙ ap (λ (ks : List ℕ). ks ++ (first + n) ∷ []) (map-id (range_with_len first n))

@@ -1,12 +1,14 @@
 -- Which descriptions of a solver are sound: their keys are within their ranges, and fit each other. The project's own.
-use Rattle.std.specs.Prelude.{◌≡◌, ◌<◌, ◌≤◌, ◌/◌, ◌*◌, ◌^◌, ◌&&◌, Bool, ℤ, pos, ◌≤ℤ◌, length, is_some, is_none, IsSome, IfSome, IsTrue, if◌then◌else◌}
+use Rattle.std.specs.Prelude.{◌≡◌, ◌<◌, ◌≤◌, ◌+◌, ◌/◌, ◌*◌, ◌^◌, ◌&&◌, Bool, ℤ, pos, ◌≤ℤ◌, length, is_some, is_none, IsSome, IsNone, IfSome, IsTrue, if◌then◌else◌}
 use Rattle.std.specs.List.{All}
 use Rattle.fixed_num.specs.Numbers.{IsValue, IsFactor}
 use Rattle.line_solvers.specs.declared.case.CaseParts.{CaseParts}
 use Rattle.line_solvers.specs.declared.case.SolverKind.{SolverKind}
-use Rattle.line_solvers.specs.declared.case.SolverKind.TheVariants.{Rows, Rod, Spring}
-use Rattle.line_solvers.specs.Sound.{IsSoundRow, none_or_each}
-use Rattle.line_solvers.specs.CaseMeaning.{state_of_case, out_of_case, rows_of_case}
+use Rattle.line_solvers.specs.declared.case.SolverKind.TheVariants.{Rows, Rod, Spring, Recorded}
+use Rattle.line_solvers.specs.Sound.{IsSoundRow, none_or_each, IsSoundRecord}
+use Rattle.line_solvers.specs.Components.{component}
+use Rattle.line_solvers.specs.RecordedStep.{used}
+use Rattle.line_solvers.specs.CaseMeaning.{state_of_case, out_of_case, rows_of_case, records_of_case}
 
 -- whether there is `state` alone, or `fill` and `count` without it
 abbrev pub has_one_state : CaseParts → Bool
@@ -41,10 +43,22 @@ pub record IsSpringCase (parts : CaseParts) : Type 0 where
   pub halves : length (state_of_case parts) ≡ 2 * (length (state_of_case parts) / 2)
   pub reads : IsTrue (none_or_each parts.reads (length (state_of_case parts) / 2))
 
+-- the keys of a recorded participant: component 0 is a whole number of records, from none to all of them, and behind it
+-- there is a component for each written value
+pub record IsRecordedCase (parts : CaseParts) : Type 0 where
+  pub has_records : IsSome parts.records
+  pub few : length (records_of_case parts) ≤ 10000
+  pub records : All (IsSoundRecord (length (state_of_case parts))) (records_of_case parts)
+  pub a_value_each : 1 + parts.writes ≡ length (state_of_case parts)
+  pub whole : component (state_of_case parts) 0 ≡ pos (used (state_of_case parts) * 10 ^ 6)
+  pub no_more : used (state_of_case parts) ≤ length (records_of_case parts)
+  pub nothing_listed : IsNone parts.out
+
 abbrev pub IsCaseOfKind : SolverKind → CaseParts → Type 0
 IsCaseOfKind Rows parts = IsRowsCase parts
 IsCaseOfKind Rod parts = IsRodCase parts
 IsCaseOfKind Spring parts = IsSpringCase parts
+IsCaseOfKind Recorded parts = IsRecordedCase parts
 
 -- a description that a solver can be made of
 pub record IsSoundCase (parts : CaseParts) : Type 0 where

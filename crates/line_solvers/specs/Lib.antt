@@ -3,6 +3,7 @@ pub mod Moved
 pub mod RowsStep
 pub mod RodStep
 pub mod SpringStep
+pub mod RecordedStep
 pub mod Checked
 pub mod Common
 pub mod LineMeaning

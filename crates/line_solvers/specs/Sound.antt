@@ -1,12 +1,13 @@
 -- What the solvers of each kind stand on, so that their sums fit and their indexes are in range. The project's own.
-use Rattle.std.specs.Prelude.{◌≡◌, ℕ, ◌<◌, ◌≤◌, ◌/◌, ◌*◌, ◌==◌, ◌||◌, Bool, List, pos, ◌≤ℤ◌, unsigned_abs, length, IsTrue}
+use Rattle.std.specs.Prelude.{◌≡◌, ℕ, ◌<◌, ◌≤◌, ◌+◌, ◌/◌, ◌*◌, ◌^◌, ◌==◌, ◌||◌, Bool, List, pos, ◌≤ℤ◌, unsigned_abs, length, IsTrue}
 use Rattle.std.specs.List.{All}
 use Rattle.fixed_num.specs.Numbers.{IsValue, IsFactor}
 use Rattle.line_solvers.specs.declared.case.Pair.{Pair}
 use Rattle.line_solvers.specs.declared.case.RowParts.{RowParts}
 use Rattle.line_solvers.specs.declared.case.RodNumbers.{RodNumbers}
 use Rattle.line_solvers.specs.declared.case.SpringNumbers.{SpringNumbers}
-use Rattle.line_solvers.specs.Common.{Common, LineView}
+use Rattle.line_solvers.specs.declared.case.RecordEntry.{RecordEntry}
+use Rattle.line_solvers.specs.Common.{LineView}
 
 -- what all kinds stand on
 pub record IsSoundLine (line : LineView) : Type 0 where
@@ -29,9 +30,9 @@ pub record IsSoundRow (components inputs : ℕ) (row : RowParts) : Type 0 where
   pub reads : All (IsPairOf inputs) row.reads
 
 -- rows, one for each component
-pub record IsSoundRows (common : Common) (listed : List RowParts) : Type 0 where
-  pub a_row_each : length listed ≡ common.size
-  pub rows : All (IsSoundRow common.size common.reads) listed
+pub record IsSoundRows (listed : List RowParts) (components inputs : ℕ) : Type 0 where
+  pub a_row_each : length listed ≡ components
+  pub rows : All (IsSoundRow components inputs) listed
 
 -- the coefficients of a rod
 pub record AreRodNumbers (rod : RodNumbers) : Type 0 where
@@ -50,12 +51,24 @@ abbrev pub none_or_each : (reads places : ℕ) → Bool
 none_or_each reads places = (reads == 0) || (reads == places)
 
 -- a rod, which reads nothing or a value for each component
-pub record IsSoundRod (common : Common) (rod : RodNumbers) : Type 0 where
+pub record IsSoundRod (rod : RodNumbers) (components inputs : ℕ) : Type 0 where
   pub numbers : AreRodNumbers rod
-  pub reads : IsTrue (none_or_each common.reads common.size)
+  pub reads : IsTrue (none_or_each inputs components)
 
 -- a spring, which has as many velocities as positions, and reads nothing or a value for each position
-pub record IsSoundSpring (common : Common) (spring : SpringNumbers) : Type 0 where
+pub record IsSoundSpring (spring : SpringNumbers) (components inputs : ℕ) : Type 0 where
   pub numbers : AreSpringNumbers spring
-  pub halves : common.size ≡ 2 * (common.size / 2)
-  pub reads : IsTrue (none_or_each common.reads (common.size / 2))
+  pub halves : components ≡ 2 * (components / 2)
+  pub reads : IsTrue (none_or_each inputs (components / 2))
+
+-- a record of a participant whose state has so many components: behind component 0 there is one for each written value
+pub record IsSoundRecord (components : ℕ) (entry : RecordEntry) : Type 0 where
+  pub a_tick : pos 1 ≤ℤ entry.dt
+  pub step_limit : entry.dt ≤ℤ pos (10 ^ 9)
+  pub a_value_each : 1 + length entry.writes ≡ components
+  pub values : All IsValue entry.writes
+
+-- the records of a participant, which reads any number of values
+pub record AreSoundRecords (records : List RecordEntry) (components inputs : ℕ) : Type 0 where
+  pub few : length records ≤ 10000
+  pub entries : All (IsSoundRecord components) records

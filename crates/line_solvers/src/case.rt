@@ -1,6 +1,6 @@
-ghost use Rattle.std.specs.Prelude.{◌≡◌, [], IfOk, unwrap_or};
+ghost use Rattle.std.specs.Prelude.{◌≡◌, [], unwrap_or};
 
-use fixed_num::{Items, Memory};
+use fixed_num::{CopyIn, Items, Memory};
 use std::alloc::Global;
 
 /// The kinds of solvers.
@@ -13,6 +13,8 @@ pub enum SolverKind {
     /// Positions and velocities: each velocity is drawn by the position's neighbours, damped, and
     /// pushed by what it reads.
     Spring,
+    /// Each step uses the next record of a list; component 0 counts them.
+    Recorded,
 }
 
 /// When a step reads its inputs.
@@ -55,6 +57,13 @@ pub struct SpringNumbers {
     pub rate: i64,
 }
 
+/// A step of a recorded participant: its ticks, 1 to 10^9, and what is written after it, in units.
+#[derive(Debug, Drop)]
+pub struct RecordEntry {
+    pub dt: i64,
+    pub writes: Items<i64>,
+}
+
 /// What a case file says of a solver. A key that is for another kind of solver plays no part.
 #[derive(Debug, Drop)]
 pub struct CaseParts {
@@ -68,13 +77,15 @@ pub struct CaseParts {
     pub fill: Option<i64>,
     /// and how many components there are, 1 to 60,000.
     pub count: Option<i64>,
-    /// The indexes of the components that are written, in this order; the first ones where it is
-    /// absent.
+    /// The indexes of the components that are written, in this order. Where it is absent they are
+    /// the first ones, or those behind component 0 of a recorded participant, which lists none.
     pub out: Option<Items<i64>>,
     /// The least absolute value that faults a step, in units, over 0.
     pub forbid: Option<i64>,
     /// A row for each component of the state.
     pub row: Option<Items<RowParts>>,
+    /// At most 10,000 records; of a recorded participant.
+    pub records: Option<Items<RecordEntry>>,
     /// How fast a rod's component is drawn to its neighbours, in units a tick.
     pub alpha: i64,
     /// How fast a rod's component is drawn to what it reads, in units a tick.
@@ -93,11 +104,8 @@ pub struct CaseParts {
     pub writes: u32,
 }
 
-impl RowParts {
-    /// An equal row in memory of its own.
-    pub(crate) fn copy(&self, alloc: Global) -> Result<RowParts, Memory>
-        ensures { IfOk result (λ copy. copy ≡ self.now) }
-    {
+impl CopyIn for RowParts {
+    fn copy_in(&self, alloc: Global) -> Result<RowParts, Memory> {
         Ok(RowParts {
             add: self.add,
             states: Items::from_vec(Vec::from_slice(alloc, self.states.as_slice())?),
@@ -106,8 +114,27 @@ impl RowParts {
     }
 }
 
+impl CopyIn for RecordEntry {
+    fn copy_in(&self, alloc: Global) -> Result<RecordEntry, Memory> {
+        Ok(RecordEntry {
+            dt: self.dt,
+            writes: Items::from_vec(Vec::from_slice(alloc, self.writes.as_slice())?),
+        })
+    }
+}
+
 /// The rows, or none where there is no list.
 pub(crate) fn rows_of(list: &Option<Items<RowParts>>) -> &[RowParts]
+    ensures { result.now ≡ unwrap_or list.now [] }
+{
+    match list {
+        Some(items) => items.as_slice(),
+        None => &[],
+    }
+}
+
+/// The records, or none where there is no list.
+pub(crate) fn records_of(list: &Option<Items<RecordEntry>>) -> &[RecordEntry]
     ensures { result.now ≡ unwrap_or list.now [] }
 {
     match list {

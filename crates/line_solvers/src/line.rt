@@ -6,10 +6,10 @@ ghost use Rattle.solver_trait.specs.Behaviour.{goes_on};
 ghost use Rattle.solver_trait.specs.Step.{IsCauseOf};
 ghost use Rattle.line_solvers.specs.Checked.{checked, reaches, written};
 ghost use Rattle.line_solvers.specs.Common.{is_at_end};
-ghost use Rattle.line_solvers.specs.CaseMeaning.{common_of_case, state_of_case, out_of_case};
+ghost use Rattle.line_solvers.specs.CaseMeaning.{common_of_case, state_of_case, out_of_case, first_out};
 ghost use Rattle.line_solvers.specs.CaseSound.{IsSoundCase};
 
-use crate::case::{CaseParts, ReadWhen};
+use crate::case::{CaseParts, ReadWhen, SolverKind};
 use fixed_num::Memory;
 use solver_trait::StepErr;
 use std::alloc::Global;
@@ -20,6 +20,9 @@ pub(crate) const OUT_OF_RANGE: u32 = 1;
 
 /// The fault of a step that makes a component that reaches the forbidden bound.
 const FORBIDDEN: u32 = 2;
+
+/// The fault of a step of a recorded participant without a record.
+pub(crate) const NO_RECORD: u32 = 3;
 
 /// What the solvers of all kinds have in common: the state, and all that does not say how it
 /// changes.
@@ -102,13 +105,11 @@ impl Line {
         self.out.len()
     }
 
-    /// The longest step, or what is left.
-    pub(crate) fn pick(&self, left: u64) -> u64
-        requires { 1 ≤ left }
-        ensures picked { result ≡ min self.now.common.step left }
-        ensures least { 1 ≤ result }
+    pub(crate) fn step(&self) -> u64
+        ensures step { result ≡ self.now.common.step }
+        ensures a_tick { 1 ≤ result }
     {
-        self.step.min(left)
+        self.step
     }
 
     pub(crate) fn read_at_end(&self) -> bool
@@ -197,7 +198,7 @@ fn out_of(alloc: Global, case: &CaseParts) -> Result<Vec<usize>, Memory>
 {
     match &case.out {
         Some(places) => indexes_of(alloc, places.as_slice()),
-        None => first_indexes(alloc, case.writes),
+        None => indexes_from(alloc, first_out(case.solver), case.writes),
     }
 }
 
@@ -212,12 +213,25 @@ fn indexes_of(alloc: Global, places: &[i64]) -> Result<Vec<usize>, Memory>
     Ok(indexes)
 }
 
-fn first_indexes(alloc: Global, count: u32) -> Result<Vec<usize>, Memory>
-    ensures { IfOk result (λ indexes. indexes.items ≡ range_with_len 0 count) }
+/// The first component that is written where none is listed.
+fn first_out(solver: SolverKind) -> u32
+    ensures first { result ≡ first_out solver }
+    ensures least { result ≤ 1 }
+{
+    match solver {
+        SolverKind::Rows | SolverKind::Rod | SolverKind::Spring => 0,
+        SolverKind::Recorded => 1,
+    }
+}
+
+/// So many indexes, from the first one on.
+fn indexes_from(alloc: Global, first: u32, count: u32) -> Result<Vec<usize>, Memory>
+    requires { first ≤ 1 }
+    ensures { IfOk result (λ indexes. indexes.items ≡ range_with_len first count) }
 {
     let mut indexes = Vec::with_capacity(alloc, count as usize)?;
     for index in 0..count {
-        indexes.push(index as usize)?;
+        indexes.push(first as usize + index as usize)?;
     }
     Ok(indexes)
 }

@@ -1,8 +1,10 @@
-use crate::case::{CaseParts, SolverKind};
+use crate::case::{CaseParts, RodNumbers, SolverKind, SpringNumbers};
 use crate::checkpoint::LineCheckpoint;
 use crate::line::Line;
+use crate::recorded::{Recorded, records_of_case};
 use crate::rod::Rod;
-use crate::rows::Rows;
+use crate::rows::{Rows, rows_of_case};
+use crate::ruled::Ruled;
 use crate::spring::Spring;
 use fixed_num::Memory;
 use solver_trait::{Solver, StepErr};
@@ -14,13 +16,15 @@ pub enum LineSolver {
     Rows(Rows),
     Rod(Rod),
     Spring(Spring),
+    Recorded(Recorded),
 }
 
 impl LineSolver {
-    ghost use Rattle.std.specs.Prelude.{◌≡◌, All, IfOk};
+    ghost use Rattle.std.specs.Prelude.{◌≡◌, ◌≤◌, All, IfOk};
     ghost use Rattle.fixed_num.specs.Numbers.{IsValue};
     ghost use Rattle.line_solvers.specs.CaseMeaning.{spec_of_case, state_of_case};
     ghost use Rattle.line_solvers.specs.CaseSound.{IsSoundCase};
+    ghost use Rattle.line_solvers.specs.LineMeaning.{longest_step};
     ghost use Rattle.line_solvers.specs.LineSolver.{spec_of, state_of};
 
     /// The solver that the case describes, in the case's state.
@@ -29,10 +33,21 @@ impl LineSolver {
         ensures spec { IfOk result (λ made. spec_of made ≡ spec_of_case case.now) }
         ensures state { IfOk result (λ made. state_of made ≡ state_of_case case.now) }
     {
+        let line = Line::from_case(alloc, case)?;
         match case.solver {
-            SolverKind::Rows => Ok(LineSolver::Rows(Rows::from_case(alloc, case)?)),
-            SolverKind::Rod => Ok(LineSolver::Rod(Rod::from_case(alloc, case)?)),
-            SolverKind::Spring => Ok(LineSolver::Spring(Spring::from_case(alloc, case)?)),
+            SolverKind::Rows => {
+                let rows = rows_of_case(alloc, case)?;
+                Ok(LineSolver::Rows(Ruled::new(line, rows)))
+            }
+            SolverKind::Rod => Ok(LineSolver::Rod(Ruled::new(line, RodNumbers::of_case(case)))),
+            SolverKind::Spring => {
+                let numbers = SpringNumbers::of_case(case);
+                Ok(LineSolver::Spring(Ruled::new(line, numbers)))
+            }
+            SolverKind::Recorded => {
+                let records = records_of_case(alloc, case)?;
+                Ok(LineSolver::Recorded(Ruled::new(line, records)))
+            }
         }
     }
 
@@ -53,6 +68,21 @@ impl LineSolver {
             LineSolver::Rows(rows) => rows.line(),
             LineSolver::Rod(rod) => rod.line(),
             LineSolver::Spring(spring) => spring.line(),
+            LineSolver::Recorded(recorded) => recorded.line(),
+        }
+    }
+
+    /// The longest step from the state that it has, in ticks.
+    fn longest(&self) -> u64
+        ensures longest { let spec = spec_of self.now in
+            result ≡ longest_step spec.rule spec.common.step (state_of self.now) }
+        ensures a_tick { 1 ≤ result }
+    {
+        match self {
+            LineSolver::Rows(rows) => rows.longest(),
+            LineSolver::Rod(rod) => rod.longest(),
+            LineSolver::Spring(spring) => spring.longest(),
+            LineSolver::Recorded(recorded) => recorded.longest(),
         }
     }
 }
@@ -87,7 +117,7 @@ impl Solver for LineSolver {
     }
 
     fn pick(&self, most: u64) -> u64 {
-        self.line().pick(most)
+        self.longest().min(most)
     }
 
     fn read_at_end(&self) -> bool {
@@ -103,6 +133,7 @@ impl Solver for LineSolver {
             LineSolver::Rows(rows) => rows.step(dt, reads, writes),
             LineSolver::Rod(rod) => rod.step(dt, reads, writes),
             LineSolver::Spring(spring) => spring.step(dt, reads, writes),
+            LineSolver::Recorded(recorded) => recorded.step(dt, reads, writes),
         }
     }
 
@@ -119,6 +150,7 @@ impl Solver for LineSolver {
             LineSolver::Rows(rows) => rows.set_state(from.components()),
             LineSolver::Rod(rod) => rod.set_state(from.components()),
             LineSolver::Spring(spring) => spring.set_state(from.components()),
+            LineSolver::Recorded(recorded) => recorded.set_state(from.components()),
         }
     }
 }

@@ -4,100 +4,52 @@ ghost use Rattle.solver_trait.specs.Behaviour.{goes_on};
 ghost use Rattle.solver_trait.specs.Step.{IsCauseOf};
 ghost use Rattle.line_solvers.specs.Checked.{checked};
 ghost use Rattle.line_solvers.specs.RodStep.{bend, pull, rod_slope, rod_components};
-ghost use Rattle.line_solvers.specs.Sound.{AreRodNumbers, none_or_each};
+ghost use Rattle.line_solvers.specs.Sound.{AreRodNumbers, none_or_each, IsSoundRod};
 
 use crate::case::{CaseParts, RodNumbers};
-use crate::line::{Line, OUT_OF_RANGE};
+use crate::change_rule::ChangeRule;
+use crate::line::OUT_OF_RANGE;
 use crate::number::{moved, weighed};
-use fixed_num::Memory;
+use crate::ruled::Ruled;
 use solver_trait::StepErr;
 use std::alloc::Global;
-use std::marker::Model;
 
 /// A solver each of whose components is drawn to its two neighbours, and to what it reads.
-#[derive(Drop)]
-pub struct Rod {
-    line: Line,
-    numbers: RodNumbers,
-}
+pub type Rod = Ruled<RodNumbers>;
 
-impl Model for Rod {
-    ghost use Rattle.line_solvers.specs.LineMeaning.{LineModel, of_rod};
-    ghost use Rattle.line_solvers.specs.Sound.{IsSoundRod};
+impl RodNumbers {
+    ghost use Rattle.line_solvers.specs.CaseMeaning.{rod_of_case};
 
-    ghost Value = { LineModel };
-
-    ghost view = { λ a. record {
-      spec = record { common = a.line.common; rule = of_rod a.numbers };
-      state = a.line.state;
-    } };
-
-    ghost invariant = { λ a. IsSoundRod a.line.common a.numbers };
-}
-
-impl Rod {
-    ghost use Rattle.line_solvers.specs.LineMeaning.{of_rod, next_of};
-    ghost use Rattle.line_solvers.specs.CaseMeaning.{common_of_case, rod_of_case, state_of_case};
-    ghost use Rattle.line_solvers.specs.CaseSound.{IsSoundCase, IsRodCase};
-
-    /// The solver of a case's rod, in the case's state.
-    pub(crate) fn from_case(alloc: Global, case: &CaseParts) -> Result<Rod, Memory>
-        requires sound { IsSoundCase case.now }
-        requires rod { IsRodCase case.now }
-        ensures common { IfOk result (λ made. made.spec.common ≡ common_of_case case.now) }
-        ensures rule { IfOk result (λ made. made.spec.rule ≡ of_rod (rod_of_case case.now)) }
-        ensures state { IfOk result (λ made. made.state ≡ state_of_case case.now) }
+    pub(crate) fn of_case(case: &CaseParts) -> RodNumbers
+        ensures { result ≡ rod_of_case case.now }
     {
-        let line = Line::from_case(alloc, case)?;
-        let numbers = RodNumbers {
+        RodNumbers {
             alpha: case.alpha,
             beta: case.beta,
-        };
-        Ok(Rod { line, numbers })
+        }
     }
+}
 
-    pub(crate) fn line(&self) -> &Line
-        ensures common { result.now.common ≡ self.now.spec.common }
-        ensures state { result.now.state ≡ self.now.state }
-    {
-        &self.line
-    }
+impl ChangeRule for RodNumbers {
+    ghost use Rattle.line_solvers.specs.LineMeaning.{of_rod};
+    ghost use Rattle.line_solvers.specs.Sound.{IsSoundRod};
 
-    /// Makes the components after `dt` ticks the state, and writes them.
-    pub(crate) fn step(
-        &mut self,
-        dt: u64,
+    ghost rule = { of_rod };
+
+    ghost suits = { IsSoundRod };
+
+    fn next_values(
+        &self,
+        alloc: Global,
+        ticks: u64,
+        state: &[i64],
         inputs: &[i64],
-        writes: &mut [i64],
-    ) -> Result<(), StepErr>
-        requires read_len { length inputs.now ≡ self.old.spec.common.reads }
-        requires write_len { length writes.old ≡ length self.old.spec.common.out }
-        requires inputs { All IsValue inputs.now }
-        ensures goes { OnOk result (next_of self.old.spec self.old.state dt inputs.now
-            ≡ goes_on self.new.state writes.new) }
-        ensures cause { IfErr result (IsCauseOf (next_of self.old.spec self.old.state dt inputs.now)) }
-        ensures same_spec { self.new.spec ≡ self.old.spec }
-        ensures same_state { OnErr result (self.new.state ≡ self.old.state) }
-        ensures unwritten { OnErr result (writes.new ≡ writes.old) }
-        ensures values { OnOk result (All IsValue writes.new) }
-    {
-        let next = next_values(
-            self.line.alloc(),
-            &self.numbers,
-            dt,
-            self.line.state(),
-            inputs,
-        )?;
-        self.line.go_on(next, writes)
+    ) -> Result<Vec<i64>, StepErr> {
+        next_values(alloc, self, ticks, state, inputs)
     }
 
-    pub(crate) fn set_state(&mut self, components: &[i64])
-        requires same_len { length components.now ≡ self.old.spec.common.size }
-        requires values { All IsValue components.now }
-        ensures state { self.new.state ≡ components.now }
-        ensures same_spec { self.new.spec ≡ self.old.spec }
-    {
-        self.line.set_state(components);
+    fn longest(&self, step: u64, _state: &[i64]) -> u64 {
+        step
     }
 }
 
@@ -109,8 +61,7 @@ fn next_values(
     state: &[i64],
     inputs: &[i64],
 ) -> Result<Vec<i64>, StepErr>
-    requires numbers { AreRodNumbers rod.now }
-    requires reads { IsTrue (none_or_each (length inputs.now) (length state.now)) }
+    requires rod { IsSoundRod rod.now (length state.now) (length inputs.now) }
     requires state { All IsValue state.now }
     requires inputs { All IsValue inputs.now }
     ensures components { IfOk result

@@ -5,103 +5,55 @@ ghost use Rattle.solver_trait.specs.Behaviour.{goes_on};
 ghost use Rattle.solver_trait.specs.Step.{IsCauseOf};
 ghost use Rattle.line_solvers.specs.Checked.{checked};
 ghost use Rattle.line_solvers.specs.SpringStep.{before, after, bend, push, spring_slope, new_velocities, new_positions, spring_components};
-ghost use Rattle.line_solvers.specs.Sound.{AreSpringNumbers, none_or_each};
+ghost use Rattle.line_solvers.specs.Sound.{AreSpringNumbers, none_or_each, IsSoundSpring};
 
 use crate::case::{CaseParts, SpringNumbers};
-use crate::line::{Line, OUT_OF_RANGE};
+use crate::change_rule::ChangeRule;
+use crate::line::OUT_OF_RANGE;
 use crate::number::{moved, weighed};
-use fixed_num::Memory;
+use crate::ruled::Ruled;
 use solver_trait::StepErr;
 use std::alloc::Global;
-use std::marker::Model;
 
 /// A solver of positions and as many velocities: a velocity is drawn by the position's neighbours,
 /// damped, and pushed by what it reads, and takes the position along.
-#[derive(Drop)]
-pub struct Spring {
-    line: Line,
-    numbers: SpringNumbers,
-}
+pub type Spring = Ruled<SpringNumbers>;
 
-impl Model for Spring {
-    ghost use Rattle.line_solvers.specs.LineMeaning.{LineModel, of_spring};
-    ghost use Rattle.line_solvers.specs.Sound.{IsSoundSpring};
+impl SpringNumbers {
+    ghost use Rattle.line_solvers.specs.CaseMeaning.{spring_of_case};
 
-    ghost Value = { LineModel };
-
-    ghost view = { λ a. record {
-      spec = record { common = a.line.common; rule = of_spring a.numbers };
-      state = a.line.state;
-    } };
-
-    ghost invariant = { λ a. IsSoundSpring a.line.common a.numbers };
-}
-
-impl Spring {
-    ghost use Rattle.line_solvers.specs.LineMeaning.{of_spring, next_of};
-    ghost use Rattle.line_solvers.specs.CaseMeaning.{common_of_case, spring_of_case, state_of_case};
-    ghost use Rattle.line_solvers.specs.CaseSound.{IsSoundCase, IsSpringCase};
-
-    /// The solver of a case's spring, in the case's state.
-    pub(crate) fn from_case(alloc: Global, case: &CaseParts) -> Result<Spring, Memory>
-        requires sound { IsSoundCase case.now }
-        requires spring { IsSpringCase case.now }
-        ensures common { IfOk result (λ made. made.spec.common ≡ common_of_case case.now) }
-        ensures rule { IfOk result (λ made. made.spec.rule ≡ of_spring (spring_of_case case.now)) }
-        ensures state { IfOk result (λ made. made.state ≡ state_of_case case.now) }
+    pub(crate) fn of_case(case: &CaseParts) -> SpringNumbers
+        ensures { result ≡ spring_of_case case.now }
     {
-        let line = Line::from_case(alloc, case)?;
-        let numbers = SpringNumbers {
+        SpringNumbers {
             stiff: case.stiff,
             damp: case.damp,
             gain: case.gain,
             rate: case.rate,
-        };
-        Ok(Spring { line, numbers })
+        }
     }
+}
 
-    pub(crate) fn line(&self) -> &Line
-        ensures common { result.now.common ≡ self.now.spec.common }
-        ensures state { result.now.state ≡ self.now.state }
-    {
-        &self.line
-    }
+impl ChangeRule for SpringNumbers {
+    ghost use Rattle.line_solvers.specs.LineMeaning.{of_spring};
+    ghost use Rattle.line_solvers.specs.Sound.{IsSoundSpring};
 
-    /// Makes the components after `dt` ticks the state, and writes them.
-    pub(crate) fn step(
-        &mut self,
-        dt: u64,
+    ghost rule = { of_spring };
+
+    ghost suits = { IsSoundSpring };
+
+    fn next_values(
+        &self,
+        alloc: Global,
+        ticks: u64,
+        state: &[i64],
         inputs: &[i64],
-        writes: &mut [i64],
-    ) -> Result<(), StepErr>
-        requires read_len { length inputs.now ≡ self.old.spec.common.reads }
-        requires write_len { length writes.old ≡ length self.old.spec.common.out }
-        requires inputs { All IsValue inputs.now }
-        ensures goes { OnOk result (next_of self.old.spec self.old.state dt inputs.now
-            ≡ goes_on self.new.state writes.new) }
-        ensures cause { IfErr result (IsCauseOf (next_of self.old.spec self.old.state dt inputs.now)) }
-        ensures same_spec { self.new.spec ≡ self.old.spec }
-        ensures same_state { OnErr result (self.new.state ≡ self.old.state) }
-        ensures unwritten { OnErr result (writes.new ≡ writes.old) }
-        ensures values { OnOk result (All IsValue writes.new) }
-    {
-        let next = next_values(
-            self.line.alloc(),
-            &self.numbers,
-            dt,
-            self.line.state(),
-            inputs,
-        )?;
-        self.line.go_on(next, writes)
+    ) -> Result<Vec<i64>, StepErr> {
+        next_values(alloc, self, ticks, state, inputs)
     }
 
-    pub(crate) fn set_state(&mut self, components: &[i64])
-        requires same_len { length components.now ≡ self.old.spec.common.size }
-        requires values { All IsValue components.now }
-        ensures state { self.new.state ≡ components.now }
-        ensures same_spec { self.new.spec ≡ self.old.spec }
-    {
-        self.line.set_state(components);
+    fn longest(&self, step: u64, _state: &[i64]) -> u64 {
+        step
     }
 }
 
@@ -114,9 +66,7 @@ fn next_values(
     state: &[i64],
     inputs: &[i64],
 ) -> Result<Vec<i64>, StepErr>
-    requires numbers { AreSpringNumbers spring.now }
-    requires halves { length state.now ≡ 2 * (length state.now / 2) }
-    requires reads { IsTrue (none_or_each (length inputs.now) (length state.now / 2)) }
+    requires spring { IsSoundSpring spring.now (length state.now) (length inputs.now) }
     requires state { All IsValue state.now }
     requires inputs { All IsValue inputs.now }
     ensures components { IfOk result

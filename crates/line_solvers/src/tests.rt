@@ -1,6 +1,6 @@
 ghost use Rattle.std.specs.Prelude.{◌≡◌, ◌≤◌, ◌<◌, ◌^◌, Some, None, length, vec_len, unsigned_abs, map, pos, ◌≤ℤ◌, All, IfOk, OnOk, IsTrue};
 ghost use Rattle.fixed_num.specs.Numbers.{IsValue, IsFactor};
-ghost use Rattle.line_solvers.specs.Sound.{IsPairOf, IsSoundRow, none_or_each};
+ghost use Rattle.line_solvers.specs.Sound.{IsPairOf, IsSoundRow, IsSoundRecord, none_or_each};
 ghost use Rattle.line_solvers.specs.LineMeaning.{line_behaviour};
 ghost use Rattle.line_solvers.specs.LineSolver.{spec_of};
 ghost use Rattle.line_solvers.specs.declared.case.ReadWhen.TheVariants.{Start};
@@ -22,6 +22,7 @@ fn case_of(solver: SolverKind, state: Vec<i64>, reads: u32, writes: u32) -> Case
       out = None;
       forbid = None;
       row = None;
+      records = None;
       alpha = pos 0;
       beta = pos 0;
       stiff = pos 0;
@@ -42,6 +43,7 @@ fn case_of(solver: SolverKind, state: Vec<i64>, reads: u32, writes: u32) -> Case
         out: None,
         forbid: None,
         row: None,
+        records: None,
         alpha: 0,
         beta: 0,
         stiff: 0,
@@ -145,6 +147,57 @@ fn single(alloc: Global, add: i64, state: i64, read: i64) -> Result<LineSolver, 
     LineSolver::from_case(alloc, &case)
 }
 
+/// A record of five ticks that writes this value.
+fn entry(alloc: Global, value: i64) -> Result<RecordEntry, Memory>
+    requires { IsValue value }
+    ensures { IfOk result (IsSoundRecord 2) }
+{
+    Ok(RecordEntry {
+        dt: 5,
+        writes: Items::from_vec(Vec::from_slice(alloc, &[value])?),
+    })
+}
+
+/// Two records, which write 2 and 4 units.
+fn two_records(alloc: Global) -> Result<Items<RecordEntry>, Memory>
+    ensures two { IfOk result (λ records. length records ≡ 2) }
+    ensures sound { IfOk result (All (IsSoundRecord 2)) }
+{
+    let mut records = Vec::new(alloc);
+    records.push(entry(alloc, 2)?)?;
+    records.push(entry(alloc, 4)?)?;
+    Ok(Items::from_vec(records))
+}
+
+/// A recorded participant with these records, of which none is used.
+fn recorded(alloc: Global, forbid: i64) -> Result<LineSolver, Memory>
+    requires { pos 1 ≤ℤ forbid }
+    ensures reads { IfOk result (λ made. (line_behaviour (spec_of made)).read_len ≡ 0) }
+    ensures writes { IfOk result (λ made. (line_behaviour (spec_of made)).write_len ≡ 1) }
+{
+    let case = CaseParts {
+        solver: SolverKind::Recorded,
+        step: 10,
+        read: ReadWhen::Start,
+        state: None,
+        fill: Some(0),
+        count: Some(2),
+        out: None,
+        forbid: Some(forbid),
+        row: None,
+        records: Some(two_records(alloc)?),
+        alpha: 0,
+        beta: 0,
+        stiff: 0,
+        damp: 0,
+        gain: 0,
+        rate: 0,
+        reads: 0,
+        writes: 1,
+    };
+    LineSolver::from_case(alloc, &case)
+}
+
 #[test]
 fn a_rod_without_reads_smooths_and_rounds_to_even(rt: HostRuntime) -> Result<(), StepErr> {
     let mut rod = free_rod(rt.alloc(), &[0, 3, 0], &[1, 0, 1])?;
@@ -204,5 +257,30 @@ fn rows_add_weigh_and_fault(rt: HostRuntime) -> Result<(), StepErr> {
     assert!(rt; writes == [7_500_000_000_000]);
     let fault = climbing.step(1, &[10_000_000_000_000], &mut writes);
     assert!(rt; fault == Err(StepErr::Fault(1)) && climbing.state() == &[7_500_000_000_000][..]);
+    Ok(())
+}
+
+#[test]
+fn a_recorded_participant_uses_its_records(rt: HostRuntime) -> Result<(), StepErr> {
+    let mut solver = recorded(rt.alloc(), 10_000_000)?;
+    let mut writes = [9];
+    solver.first(&mut writes);
+    assert!(rt; writes == [0] && solver.pick(25) == 5 && solver.pick(4) == 4);
+    solver.step(5, &[], &mut writes)?;
+    assert!(rt; writes == [2] && solver.state() == &[1_000_000, 2][..]);
+    solver.step(4, &[], &mut writes)?;
+    assert!(rt; solver.state() == &[2_000_000, 4][..] && solver.pick(25) == 10);
+    let without_record = solver.step(10, &[], &mut writes);
+    assert!(rt; without_record == Err(StepErr::Fault(3)) && writes == [4]);
+    Ok(())
+}
+
+#[test]
+fn the_count_of_records_reaches_the_bound(rt: HostRuntime) -> Result<(), StepErr> {
+    let mut solver = recorded(rt.alloc(), 2_000_000)?;
+    let mut writes = [9];
+    solver.step(5, &[], &mut writes)?;
+    let at_bound = solver.step(5, &[], &mut writes);
+    assert!(rt; at_bound == Err(StepErr::Fault(2)) && solver.state() == &[1_000_000, 2][..]);
     Ok(())
 }

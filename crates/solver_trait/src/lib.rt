@@ -9,12 +9,15 @@ ghost use Rattle.solver_trait.specs.Step.{IsCauseOf};
 
 use fixed_num::Memory;
 use std::alloc::{AllocError, AllocFailed, Global};
+use thiserror::Error;
 
 /// Why a step was refused. The solver and the written values are then as before.
-#[derive(Clone, Copy, Debug, PartialEq, Eq)]
+#[derive(Clone, Copy, Debug, PartialEq, Eq, Error)]
 pub enum StepErr {
     /// The solver's own fault, with its code.
+    #[error("the solver faulted with code {0}")]
     Fault(u32),
+    #[error("out of memory")]
     Memory,
 }
 

@@ -37,7 +37,7 @@ returns-in_err-move_positions-clause-cause c =
     ∙ ap (λ (zs : List ℤ). zs ++ vs) (c.in_ok-extend_from_slice.ensures.items ∙ ap (λ (zs : List ℤ). zs ++ xs) c.in_ok-next.ensures.items) in
     let front = c.split_at_mut-moving.ensures.front ∙ ap (λ (zs : List ℤ). take (length xs) zs) joined ∙ take_at xs vs (length xs) refl in
     let back = c.split_at_mut-moving.ensures.back ∙ ap (λ (zs : List ℤ). drop (length xs) zs) joined ∙ drop_at xs vs (length xs) refl in
-    let rate = factor_back c.args.spring.now.rate c.requires.numbers.rate in
+    let rate = factor_back c.args.spring.now.rate c.requires.spring.numbers.rate in
     let p = err_from_is_err_and c.from_residual-in_err-move_positions.result c.from_residual-in_err-move_positions.ensures.1 in
     λ forbid out.
     let told = rw (rate, front, back, c.split_at.ensures.front, c.split_at.ensures.back) at (c.in_err-move_positions.ensures.cause forbid out vs) in
@@ -62,7 +62,7 @@ returns-clause-components c =
     ∙ ap (λ (zs : List ℤ). zs ++ vs) (c.in_ok-extend_from_slice.ensures.items ∙ ap (λ (zs : List ℤ). zs ++ xs) c.in_ok-next.ensures.items) in
     let front = c.split_at_mut-moving.ensures.front ∙ ap (λ (zs : List ℤ). take (length xs) zs) joined ∙ take_at xs vs (length xs) refl in
     let back = c.split_at_mut-moving.ensures.back ∙ ap (λ (zs : List ℤ). drop (length xs) zs) joined ∙ drop_at xs vs (length xs) refl in
-    let rate = factor_back c.args.spring.now.rate c.requires.numbers.rate in
+    let rate = factor_back c.args.spring.now.rate c.requires.spring.numbers.rate in
     let spring = c.args.spring.now in
     let ps = positions c.args.state.now in
     let ws = new_velocities spring c.args.ticks ps (velocities c.args.state.now) c.args.inputs.now in

@@ -1,6 +1,6 @@
 use Rattle.std.proofs.Common.{◌≡◌}
 use Rattle.std.specs.List.{range_with_len}
-use Rattle.line_solvers.proofs.line.first_indexes.Given as goal
+use Rattle.line_solvers.proofs.line.indexes_from.Given as goal
 
 abbrev pub invariant-loop-index : goal.invariant-loop-index
-invariant-loop-index l = l.indexes.items ≡ range_with_len 0 l.index
+invariant-loop-index l = l.indexes.items ≡ range_with_len l.first l.index

@@ -1,7 +1,0 @@
-use Rattle.std.proofs.Common.{ℕ, List, [], ◌∷◌, ◌++◌, ap, sym, ◌∙◌}
-use Rattle.line_solvers.proofs.Checks.{range_more}
-use Rattle.line_solvers.proofs.line.first_indexes.Goals as goal
-
-pub loop-index-preserved : goal.loop-index-preserved
-loop-index-preserved c =
-    c.in_ok-push.ensures.items ∙ ap (λ (xs : List ℕ). xs ++ c.loop-index.index ∷ []) c.loop-index.invariant ∙ sym (range_more c.loop-index.index)
