@@ -1,5 +1,5 @@
 -- Why a case file is refused, and what an accepted one is.
-use Rattle.std.proofs.Common.{◌≡◌, ℕ, ◌+◌, ◌≤◌, ◌^◌, Bool, true, false, nat_le, List, length, Option, Some, None, Ok, Err, refl, ap, ◌⊎◌, inl, inr, cond, subst, sym, arith}
+use Rattle.std.proofs.Common.{◌≡◌, ℕ, ◌+◌, ◌≤◌, ◌^◌, true, false, nat_le, List, length, Option, Some, None, Ok, Err, refl, ap, inl, inr, cond, subst, sym, arith}
 use Rattle.std.proofs.lemmas.Bool.Decides.{nat_tests}
 use Rattle.toml.specs.Data.{Members}
 use Rattle.cpl_tables.specs.declared.places.Place.TheVariants.{Case}
@@ -12,7 +12,7 @@ use Rattle.cpl_config.proofs.Faults.{refused_found, none_found, accepted_found}
 use Rattle.case_files.specs.declared.case_file.CaseFile.{CaseFile}
 use Rattle.case_files.specs.CaseOf.{case_of}
 use Rattle.case_files.specs.CaseAcceptance.{at_case, case_acceptance, case_acceptance_of_tree}
-use Rattle.case_files.specs.FirstCaseFault.{IsFirstCaseFault, IsTooLongCase, IsNoTreeCase, HasBrokenCaseRule}
+use Rattle.case_files.specs.FirstCaseFault.{IsFirstCaseFault}
 use Rattle.case_files.specs.NoCaseFault.{HasNoCaseFault}
 use Rattle.case_files.specs.SoundCase.{IsSoundCaseFile}
 use Rattle.case_files.proofs.SoundCases.{case_in_order}

@@ -10,7 +10,7 @@ use Rattle.std.proofs.lemmas.Map.Text.{is_eq-slice_cmp}
 use Rattle.std.proofs.lemmas.Slice.Eq.{bytes_eq-Decides}
 use Rattle.toml.specs.Data.{Data, string, Members, no_members, member, get_member}
 use Rattle.cpl_tables.specs.declared.kinds.TableKind.{TableKind}
-use Rattle.cpl_tables.specs.declared.kinds.TableKind.TheVariants.{RowsCase, RodCase, SpringCase, AnyCase}
+use Rattle.cpl_tables.specs.declared.kinds.TableKind.TheVariants.{RowsCase, RodCase, SpringCase, RecordedCase, AnyCase}
 use Rattle.cpl_tables.specs.declared.shapes.Presence.TheVariants.{Required}
 use Rattle.cpl_tables.specs.declared.shapes.Shape.TheVariants.{Word}
 use Rattle.cpl_tables.specs.declared.word_lists.WordList.TheVariants.{Solver}
@@ -19,48 +19,77 @@ use Rattle.cpl_rules.specs.SeenTables.{case_kind}
 use Rattle.cpl_rules.specs.BrokenRules.{names_in, is_listed}
 use Rattle.cpl_config.proofs.SoundValues.{IsRightAt}
 use Rattle.line_solvers.specs.declared.case.SolverKind.{SolverKind}
-use Rattle.line_solvers.specs.declared.case.SolverKind.TheVariants.{Rows, Rod, Spring}
+use Rattle.line_solvers.specs.declared.case.SolverKind.TheVariants.{Rows, Rod, Spring, Recorded}
 use Rattle.case_files.specs.CaseOf.{solver_of}
 
--- what holds of the four kinds of case files holds of the kind of each
-of_words : (P : TableKind → Type 0) (rows rod spring : Bool) → P RowsCase → P RodCase → P SpringCase → P AnyCase
-    → P (if rows then RowsCase else if rod then RodCase else if spring then SpringCase else AnyCase)
-of_words P true rod spring of_rows of_rod of_spring of_any = of_rows
-of_words P false true spring of_rows of_rod of_spring of_any = of_rod
-of_words P false false true of_rows of_rod of_spring of_any = of_spring
-of_words P false false false of_rows of_rod of_spring of_any = of_any
+-- the kind of a case file, by which of the words its solver is
+abbrev kind_by : (rows rod spring recorded : Bool) → TableKind
+kind_by rows rod spring recorded =
+    if rows then RowsCase else if rod then RodCase else if spring then SpringCase else if recorded then RecordedCase else AnyCase
 
-pub of_case_kinds : (P : TableKind → Type 0) (o : Option Data) → P RowsCase → P RodCase → P SpringCase → P AnyCase → P (case_kind o)
-of_case_kinds P None of_rows of_rod of_spring of_any = of_any
-of_case_kinds P (Some (string word)) of_rows of_rod of_spring of_any =
-    of_words P (bytes_eq word (codes "rows")) (bytes_eq word (codes "rod")) (bytes_eq word (codes "spring")) of_rows of_rod of_spring of_any
-of_case_kinds P (Some _) of_rows of_rod of_spring of_any = of_any
+-- the solver, by the same
+abbrev solver_by : (rows rod spring : Bool) → SolverKind
+solver_by rows rod spring = if rows then Rows else if rod then Rod else if spring then Spring else Recorded
+
+-- what holds of the five kinds of case files holds of the kind of each
+of_words : (P : TableKind → Type 0) (rows rod spring recorded : Bool) → P RowsCase → P RodCase → P SpringCase → P RecordedCase → P AnyCase
+    → P (kind_by rows rod spring recorded)
+of_words P true rod spring recorded of_rows of_rod of_spring of_recorded of_any = of_rows
+of_words P false true spring recorded of_rows of_rod of_spring of_recorded of_any = of_rod
+of_words P false false true recorded of_rows of_rod of_spring of_recorded of_any = of_spring
+of_words P false false false true of_rows of_rod of_spring of_recorded of_any = of_recorded
+of_words P false false false false of_rows of_rod of_spring of_recorded of_any = of_any
+
+pub of_case_kinds : (P : TableKind → Type 0) (o : Option Data) → P RowsCase → P RodCase → P SpringCase → P RecordedCase → P AnyCase → P (case_kind o)
+of_case_kinds P None of_rows of_rod of_spring of_recorded of_any = of_any
+of_case_kinds P (Some (string word)) of_rows of_rod of_spring of_recorded of_any =
+    of_words P (bytes_eq word (codes "rows")) (bytes_eq word (codes "rod")) (bytes_eq word (codes "spring")) (bytes_eq word (codes "recorded"))
+    of_rows of_rod of_spring of_recorded of_any
+of_case_kinds P (Some _) of_rows of_rod of_spring of_recorded of_any = of_any
 
 -- The solver
 
-rows_word : (rows rod spring : Bool) → (if rows then Rows else if rod then Rod else Spring) ≡ Rows
-    → (if rows then RowsCase else if rod then RodCase else if spring then SpringCase else AnyCase) ≡ RowsCase
-rows_word true rod spring e = refl
-rows_word false true spring e = absurd (cc)
-rows_word false false spring e = absurd (cc)
+rows_word : (rows rod spring recorded : Bool) → solver_by rows rod spring ≡ Rows → kind_by rows rod spring recorded ≡ RowsCase
+rows_word true rod spring recorded e = refl
+rows_word false true spring recorded e = absurd (cc)
+rows_word false false true recorded e = absurd (cc)
+rows_word false false false recorded e = absurd (cc)
 
 -- the solver of rows stands in a case file of rows
 pub of_rows_solver : (o : Option Data) → IsRightAt Required (Word Solver) o → solver_of (option_map_or text_of o []) ≡ Rows → case_kind o ≡ RowsCase
 of_rows_solver None right e = absurd (false≢true right.fits)
-of_rows_solver (Some (string word)) right e = rows_word (bytes_eq word (codes "rows")) (bytes_eq word (codes "rod")) (bytes_eq word (codes "spring")) e
+of_rows_solver (Some (string word)) right e =
+    rows_word (bytes_eq word (codes "rows")) (bytes_eq word (codes "rod")) (bytes_eq word (codes "spring")) (bytes_eq word (codes "recorded")) e
 of_rows_solver (Some _) right e = absurd (false≢true right.fits.typed)
 
-known_word : (rows rod spring : Bool) → IsTrue (rows || (rod || (spring || false)))
-    → (if rows then RowsCase else if rod then RodCase else if spring then SpringCase else AnyCase) ≡ AnyCase → ⊥
-known_word true rod spring listed e = cc
-known_word false true spring listed e = cc
-known_word false false true listed e = cc
-known_word false false false listed e = false≢true listed
+recorded_word : (rows rod spring recorded : Bool) → IsTrue (rows || (rod || (spring || (recorded || false)))) → solver_by rows rod spring ≡ Recorded
+    → kind_by rows rod spring recorded ≡ RecordedCase
+recorded_word true rod spring recorded listed e = absurd (cc)
+recorded_word false true spring recorded listed e = absurd (cc)
+recorded_word false false true recorded listed e = absurd (cc)
+recorded_word false false false true listed e = refl
+recorded_word false false false false listed e = absurd (false≢true listed)
+
+-- a recorded participant has a case file of its own kind
+pub of_recorded_solver : (o : Option Data) → IsRightAt Required (Word Solver) o → solver_of (option_map_or text_of o []) ≡ Recorded → case_kind o ≡ RecordedCase
+of_recorded_solver None right e = absurd (false≢true right.fits)
+of_recorded_solver (Some (string word)) right e =
+    recorded_word (bytes_eq word (codes "rows")) (bytes_eq word (codes "rod")) (bytes_eq word (codes "spring")) (bytes_eq word (codes "recorded"))
+    right.fits.typed e
+of_recorded_solver (Some _) right e = absurd (false≢true right.fits.typed)
+
+known_word : (rows rod spring recorded : Bool) → IsTrue (rows || (rod || (spring || (recorded || false)))) → kind_by rows rod spring recorded ≡ AnyCase → ⊥
+known_word true rod spring recorded listed e = cc
+known_word false true spring recorded listed e = cc
+known_word false false true recorded listed e = cc
+known_word false false false true listed e = cc
+known_word false false false false listed e = false≢true listed
 
 -- a listed solver has a kind of its own
 pub of_some_kind : (o : Option Data) → IsRightAt Required (Word Solver) o → case_kind o ≡ AnyCase → ⊥
 of_some_kind None right e = false≢true right.fits
-of_some_kind (Some (string word)) right e = known_word (bytes_eq word (codes "rows")) (bytes_eq word (codes "rod")) (bytes_eq word (codes "spring")) right.fits.typed e
+of_some_kind (Some (string word)) right e =
+    known_word (bytes_eq word (codes "rows")) (bytes_eq word (codes "rod")) (bytes_eq word (codes "spring")) (bytes_eq word (codes "recorded")) right.fits.typed e
 of_some_kind (Some _) right e = false≢true right.fits.typed
 
 -- Keys that are not listed

@@ -1,5 +1,5 @@
 -- All tables of a case file have its place.
-use Rattle.std.proofs.Common.{◌≡◌, ℕ, ◌+◌, List, [], ◌∷◌, ◌++◌, flat_map, Option, Some, refl, sym, ap, ◌∙◌, subst}
+use Rattle.std.proofs.Common.{◌≡◌, ℕ, ◌+◌, List, [], ◌∷◌, ◌++◌, flat_map, Option, Some, refl, ap, ◌∙◌, subst}
 use Rattle.std.specs.List.{AllByRecursion}
 use Rattle.toml.specs.Data.{Data, table, Members}
 use Rattle.cpl_tables.specs.declared.kinds.TableKind.{TableKind}
@@ -7,7 +7,6 @@ use Rattle.cpl_tables.specs.declared.places.Place.{Place}
 use Rattle.cpl_tables.specs.declared.places.Place.TheVariants.{Case}
 use Rattle.cpl_tables.specs.declared.shapes.Shape.{Shape}
 use Rattle.cpl_tables.specs.declared.shapes.Shape.TheVariants.{Tables, Table}
-use Rattle.cpl_tables.specs.KeyRule.{KeyRule}
 use Rattle.cpl_tables.specs.Keys.{keys_of}
 use Rattle.cpl_tables.specs.Places.{place_in, number_at}
 use Rattle.cpl_tables.specs.Values.{list_of}

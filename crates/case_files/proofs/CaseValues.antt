@@ -1,8 +1,7 @@
 -- From the tests on the value of a key to what the field of a case then is, one lemma a shape.
-use Rattle.std.proofs.Common.{◌≡◌, ◌≤◌, ◌^◌, ℕ, List, [], map, length, ℤ, pos, All, IfSome, IsSome, IsTrue, Option, Some, None, option_map, unwrap_or, leb-true, nat_le, zero-le}
-use Rattle.std.specs.List.{list_all}
+use Rattle.std.proofs.Common.{◌≡◌, ◌≤◌, ◌^◌, ℕ, List, [], map, length, pos, All, IfSome, IsTrue, Option, Some, None, option_map, unwrap_or, leb-true, nat_le, zero-le}
 use Rattle.std.specs.Option.{option_map_or}
-use Rattle.std.proofs.lemmas.Bool.{and_parts, false≢true}
+use Rattle.std.proofs.lemmas.Bool.{and_parts}
 use Rattle.std.proofs.lemmas.List.Elements.{All-map, All-weaker, All-nil}
 use Rattle.std.proofs.lemmas.List.{length-map}
 use Rattle.std.proofs.lemmas.List.Sums.{AllPass-from_list_all}
@@ -10,7 +9,7 @@ use Rattle.toml.specs.Data.{Data}
 use Rattle.cpl_tables.specs.declared.shapes.Range.{Range}
 use Rattle.cpl_tables.specs.declared.shapes.Range.TheVariants.{Within}
 use Rattle.cpl_tables.specs.declared.shapes.Limit.TheVariants.{Items as ItemsLimit}
-use Rattle.cpl_tables.specs.declared.shapes.Presence.TheVariants.{Required, Optional}
+use Rattle.cpl_tables.specs.declared.shapes.Presence.TheVariants.{Optional}
 use Rattle.cpl_tables.specs.declared.shapes.Shape.TheVariants.{Number, Numbers, Points, Pairs}
 use Rattle.cpl_tables.specs.Values.{list_of, number_of_pair, is_within, is_point_in, is_pair_in}
 use Rattle.cpl_config.specs.TreeValues.{units_of}

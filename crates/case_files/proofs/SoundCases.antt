@@ -1,14 +1,14 @@
 -- A case file whose tables break no rule means a sound case.
-use Rattle.std.proofs.Common.{◌≡◌, ◌^◌, ℕ, List, [], ◌∷◌, ◌++◌, map, codes, All, IfSome, IsSome, IsTrue, IsFalse, Option, Some, None, option_map, pos, refl, sym, subst, lit<}
+use Rattle.std.proofs.Common.{◌≡◌, ◌^◌, ℕ, List, [], ◌++◌, map, codes, All, IfSome, IsSome, IsNone, IsTrue, IsFalse, Option, Some, None, option_map, refl, sym, lit<}
 use Rattle.std.specs.List.{AllByRecursion}
 use Rattle.std.specs.Option.{option_map_or}
 use Rattle.std.proofs.lemmas.Bool.{false≢true}
 use Rattle.toml.specs.Data.{Data, Members, get_member}
 use Rattle.cpl_tables.specs.declared.kinds.TableKind.{TableKind}
-use Rattle.cpl_tables.specs.declared.kinds.TableKind.TheVariants.{RowsCase, RodCase, SpringCase, AnyCase, CaseMesh, Line, Row}
+use Rattle.cpl_tables.specs.declared.kinds.TableKind.TheVariants.{RowsCase, RodCase, SpringCase, RecordedCase, AnyCase, CaseMesh, Line, Row, Record}
 use Rattle.cpl_tables.specs.declared.places.Place.{Place}
 use Rattle.cpl_tables.specs.declared.places.Place.TheVariants.{Case}
-use Rattle.cpl_tables.specs.declared.shapes.Limit.TheVariants.{Any}
+use Rattle.cpl_tables.specs.declared.shapes.Limit.TheVariants.{Any, Items as ItemsLimit}
 use Rattle.cpl_tables.specs.declared.shapes.Presence.{Presence}
 use Rattle.cpl_tables.specs.declared.shapes.Presence.TheVariants.{Required}
 use Rattle.cpl_tables.specs.declared.shapes.Range.TheVariants.{Within}
@@ -16,26 +16,25 @@ use Rattle.cpl_tables.specs.declared.shapes.Shape.{Shape}
 use Rattle.cpl_tables.specs.declared.shapes.Shape.TheVariants.{Tables, Word}
 use Rattle.cpl_tables.specs.declared.word_lists.WordList.TheVariants.{Solver}
 use Rattle.cpl_tables.specs.KeyRule.{KeyRule}
-use Rattle.cpl_tables.specs.Keys.{keys_of, every_case, row_keys, rod_keys, spring_keys}
-use Rattle.cpl_tables.specs.Values.{text_of, list_of, are_distinct_texts}
+use Rattle.cpl_tables.specs.Keys.{keys_of, every_case, out_keys, row_keys, rod_keys, spring_keys, record_keys}
+use Rattle.cpl_tables.specs.Values.{text_of, are_distinct_texts}
 use Rattle.cpl_rules.specs.Seen.{Seen}
 use Rattle.cpl_rules.specs.SeenTables.{tables_of, tables_in, all_tables, case_kind, case_top}
 use Rattle.cpl_rules.specs.BrokenRules.{breaks, has_unknown_key, is_listed}
 use Rattle.cpl_rules.specs.declared.rules.Rule.TheVariants.{UnknownKey}
 use Rattle.cpl_rules.specs.Refused.{IsInOrder}
 use Rattle.cpl_config.specs.TreeValues.{tables_at}
-use Rattle.cpl_config.proofs.SoundValues.{IsRightAt, name_there, integer_there, integer_if_there, numbers_there}
+use Rattle.cpl_config.proofs.SoundValues.{IsRightAt, name_there, integer_there, integer_if_there, numbers_there, within_limits}
 use Rattle.cpl_config.proofs.SoundRules.{each_kept, AreRight, IsRightTable, IsRightSeen}
 use Rattle.cpl_config.proofs.SoundTables.{IsRightWithin, all_within, AllUnder, by_keys, under, one_under}
 use Rattle.cpl_config.proofs.SoundPicks.{IsPick, pick_outer, pick_under}
 use Rattle.cpl_config.proofs.SoundCounts.{distinct_picked}
 use Rattle.cpl_config.proofs.SoundConfigs.{IsChecked, checked, pick_of_all, distinct_meant}
-use Rattle.line_solvers.specs.declared.case.RowParts.{RowParts}
-use Rattle.line_solvers.specs.declared.case.SolverKind.TheVariants.{Rows}
-use Rattle.case_files.specs.CaseOf.{units_or_zero, solver_of, row_of, rows_of, line_of, case_mesh_of, case_of}
-use Rattle.case_files.specs.SoundCase.{IsCoefficient, IsSoundRow, IsSoundLine, IsSoundCaseMesh, IsSoundCaseFile}
+use Rattle.line_solvers.specs.declared.case.SolverKind.TheVariants.{Rows, Recorded}
+use Rattle.case_files.specs.CaseOf.{units_or_zero, integers_of, solver_of, row_of, rows_of, record_of, records_of, line_of, case_mesh_of, case_of}
+use Rattle.case_files.specs.SoundCase.{IsCoefficient, IsSoundRow, IsSoundRecord, IsRecordList, IsSoundLine, IsSoundCaseMesh, IsSoundCaseFile}
 use Rattle.case_files.proofs.CaseValues.{number_or_zero, number_if, zero_where_absent, state_if, points_if, pairs_there}
-use Rattle.case_files.proofs.CaseKinds.{of_case_kinds, of_rows_solver, of_some_kind, not_there}
+use Rattle.case_files.proofs.CaseKinds.{of_case_kinds, of_rows_solver, of_recorded_solver, of_some_kind, not_there}
 
 -- Meshes and rows
 
@@ -50,6 +49,9 @@ sound_row tree right =
     let states = pairs_there keys.1.0 in
     let reads = pairs_there keys.1.1.0 in
     record { add = number_or_zero refl keys.0; few_states = states.few; states = states.numbers; few_reads = reads.few; reads = reads.numbers }
+
+sound_record : (tree : Members) → IsRightTable Record tree → IsSoundRecord (record_of tree)
+sound_record tree right = let keys = right.keys in record { dt = integer_there keys.0; writes = numbers_there keys.1.0 }
 
 sound_case_mesh : (place : Place) (tree : Members) → IsRightWithin (record { place = place; kind = CaseMesh; members = tree }) → IsSoundCaseMesh (case_mesh_of tree)
 sound_case_mesh place tree right =
@@ -77,10 +79,35 @@ no_rows : {value : Option Data} → value ≡ None → IfSome (option_map rows_o
 no_rows {value = None} absent = tt
 no_rows {value = Some rows} absent = absurd (cc)
 
+-- the records of a recorded participant
+sound_records : (seen : Seen) {value : Option Data} → IsRightAt Required (Tables Record (ItemsLimit 0 10000)) value
+    → AllByRecursion IsRightWithin (tables_of seen (Tables Record (ItemsLimit 0 10000)) value) → IfSome (option_map records_of value) IsRecordList
+sound_records seen {value = None} right all = tt
+sound_records seen {value = Some records} right all =
+    record {
+      few = (within_limits record_of {kind = Record} {least = 0} {most = 10000} {o = Some records} right).1;
+      each = under Record IsRightWithin IsSoundRecord record_of (λ _ tree inner. sound_record tree inner.itself) seen {value = Some records} right all;
+    }
+
+records_there : {value : Option Data} {shape : Shape} → IsRightAt Required shape value → IsSome (option_map records_of value)
+records_there {value = None} right = absurd (false≢true right.fits)
+records_there {value = Some records} right = refl
+
+no_records : {value : Option Data} → value ≡ None → IfSome (option_map records_of value) IsRecordList
+no_records {value = None} absent = tt
+no_records {value = Some records} absent = absurd (cc)
+
+no_out : {value : Option Data} → value ≡ None → IsNone (option_map integers_of value)
+no_out {value = None} absent = refl
+no_out {value = Some places} absent = absurd (cc)
+
 -- what the keys of one kind of solver alone mean
 record HasKindKeys (tree : Members) : Type 0 where
   has_rows : solver_of (option_map_or text_of (get_member (codes "solver") tree) []) ≡ Rows → IsSome (option_map rows_of (get_member (codes "row") tree))
   rows : IfSome (option_map rows_of (get_member (codes "row") tree)) (All IsSoundRow)
+  has_records : solver_of (option_map_or text_of (get_member (codes "solver") tree) []) ≡ Recorded → IsSome (option_map records_of (get_member (codes "record") tree))
+  records : IfSome (option_map records_of (get_member (codes "record") tree)) IsRecordList
+  no_out : solver_of (option_map_or text_of (get_member (codes "solver") tree) []) ≡ Recorded → IsNone (option_map integers_of (get_member (codes "out") tree))
   alpha : IsCoefficient (units_or_zero (codes "alpha") tree)
   beta : IsCoefficient (units_or_zero (codes "beta") tree)
   stiff : IsCoefficient (units_or_zero (codes "stiff") tree)
@@ -106,17 +133,20 @@ module _ (place : Place) (kind : TableKind) (own : List KeyRule) (tree : Members
   sound_with : HasKindKeys tree → IsSoundCaseFile (case_of tree)
   sound_with kind_keys =
       let state = keys.1.1.1 in
-      let out = state.1.1.1 in
+      let forbid = state.1.1.1 in
       record {
         step = integer_there keys.1.0;
         state = state_if state.0;
         fill = number_if state.1.0;
         count = integer_if_there state.1.1.0;
-        forbid = number_if out.1.0;
-        meshes = under CaseMesh IsRightWithin IsSoundCaseMesh case_mesh_of sound_case_mesh (case_of_kind place kind tree) out.1.1.0 tables.1.1.1.1.1.1.1.1.0;
+        forbid = number_if forbid.0;
+        meshes = under CaseMesh IsRightWithin IsSoundCaseMesh case_mesh_of sound_case_mesh (case_of_kind place kind tree) forbid.1.0 tables.1.1.1.1.1.1.1.0;
         mesh_once = mesh_once;
         has_rows = kind_keys.has_rows;
         rows = kind_keys.rows;
+        has_records = kind_keys.has_records;
+        records = kind_keys.records;
+        no_out = kind_keys.no_out;
         alpha = kind_keys.alpha;
         beta = kind_keys.beta;
         stiff = kind_keys.stiff;
@@ -126,6 +156,10 @@ module _ (place : Place) (kind : TableKind) (own : List KeyRule) (tree : Members
       }
 
 -- Kind by kind
+
+-- a file of records alone has a recorded participant
+not_recorded : (kind : TableKind) (solver : Option Data) → kind ≡ case_kind solver → (RecordedCase ≡ kind → ⊥) → IsRightAt Required (Word Solver) solver → solver_of (option_map_or text_of solver []) ≡ Recorded → ⊥
+not_recorded kind solver is apart right e = apart (let of_recorded = of_recorded_solver solver right e in cc)
 
 -- a file of rows alone has the solver of rows
 not_rows : (kind : TableKind) (solver : Option Data) → kind ≡ case_kind solver → (RowsCase ≡ kind → ⊥) → IsRightAt Required (Word Solver) solver → solver_of (option_map_or text_of solver []) ≡ Rows → ⊥
@@ -153,10 +187,13 @@ module _ (place : Place) (tree : Members) where
       let tables = tables_of_kind RowsCase file in
       let known = known_keys RowsCase in_order in
       let row = keys.1.1.1.1.1.1.1.1.1.0 in
-      sound_with place RowsCase (row_keys Required) tree keys tables (pick_of_all top 8 (lit< tt) (pick_outer (pick_under top keys.1.1.1.1.1.1.1.1.0))) file
+      sound_with place RowsCase (out_keys ++ row_keys Required) tree keys tables (pick_of_all top 7 (lit< tt) (pick_outer (pick_under top keys.1.1.1.1.1.1.1.0))) file
       (record {
         has_rows = λ _. rows_there row;
         rows = sound_rows top row tables.1.1.1.1.1.1.1.1.1.0;
+        has_records = λ solver. absurd (not_recorded RowsCase (get_member (codes "solver") tree) is (λ e. cc) keys.0 solver);
+        records = no_records (not_there RowsCase (codes "record") refl tree known);
+        no_out = λ solver. absurd (not_recorded RowsCase (get_member (codes "solver") tree) is (λ e. cc) keys.0 solver);
         alpha = other RowsCase (codes "alpha") known refl;
         beta = other RowsCase (codes "beta") known refl;
         stiff = other RowsCase (codes "stiff") known refl;
@@ -172,10 +209,13 @@ module _ (place : Place) (tree : Members) where
       let keys : AreRight (keys_of RodCase) tree = file.right.0.keys in
       let known = known_keys RodCase in_order in
       let own = keys.1.1.1.1.1.1.1.1.1 in
-      sound_with place RodCase rod_keys tree keys (tables_of_kind RodCase file) (pick_of_all top 8 (lit< tt) (pick_outer (pick_under top keys.1.1.1.1.1.1.1.1.0))) file
+      sound_with place RodCase (out_keys ++ rod_keys) tree keys (tables_of_kind RodCase file) (pick_of_all top 7 (lit< tt) (pick_outer (pick_under top keys.1.1.1.1.1.1.1.0))) file
       (record {
         has_rows = λ solver. absurd (not_rows RodCase (get_member (codes "solver") tree) is (λ e. cc) keys.0 solver);
         rows = no_rows (not_there RodCase (codes "row") refl tree known);
+        has_records = λ solver. absurd (not_recorded RodCase (get_member (codes "solver") tree) is (λ e. cc) keys.0 solver);
+        records = no_records (not_there RodCase (codes "record") refl tree known);
+        no_out = λ solver. absurd (not_recorded RodCase (get_member (codes "solver") tree) is (λ e. cc) keys.0 solver);
         alpha = number_or_zero refl own.0;
         beta = number_or_zero refl own.1.0;
         stiff = other RodCase (codes "stiff") known refl;
@@ -191,16 +231,42 @@ module _ (place : Place) (tree : Members) where
       let keys : AreRight (keys_of SpringCase) tree = file.right.0.keys in
       let known = known_keys SpringCase in_order in
       let own = keys.1.1.1.1.1.1.1.1.1 in
-      sound_with place SpringCase spring_keys tree keys (tables_of_kind SpringCase file) (pick_of_all top 8 (lit< tt) (pick_outer (pick_under top keys.1.1.1.1.1.1.1.1.0))) file
+      sound_with place SpringCase (out_keys ++ spring_keys) tree keys (tables_of_kind SpringCase file) (pick_of_all top 7 (lit< tt) (pick_outer (pick_under top keys.1.1.1.1.1.1.1.0))) file
       (record {
         has_rows = λ solver. absurd (not_rows SpringCase (get_member (codes "solver") tree) is (λ e. cc) keys.0 solver);
         rows = no_rows (not_there SpringCase (codes "row") refl tree known);
+        has_records = λ solver. absurd (not_recorded SpringCase (get_member (codes "solver") tree) is (λ e. cc) keys.0 solver);
+        records = no_records (not_there SpringCase (codes "record") refl tree known);
+        no_out = λ solver. absurd (not_recorded SpringCase (get_member (codes "solver") tree) is (λ e. cc) keys.0 solver);
         alpha = other SpringCase (codes "alpha") known refl;
         beta = other SpringCase (codes "beta") known refl;
         stiff = number_or_zero refl own.0;
         damp = number_or_zero refl own.1.0;
         gain = number_or_zero refl own.1.1.0;
         rate = number_or_zero refl own.1.1.1.0;
+      })
+
+  sound_of_recorded : Sound RecordedCase
+  sound_of_recorded is in_order =
+      let top = case_of_kind place RecordedCase tree in
+      let file = checked top in_order in
+      let keys : AreRight (keys_of RecordedCase) tree = file.right.0.keys in
+      let tables = tables_of_kind RecordedCase file in
+      let known = known_keys RecordedCase in_order in
+      let records = keys.1.1.1.1.1.1.1.1.0 in
+      sound_with place RecordedCase (record_keys Required) tree keys tables (pick_of_all top 7 (lit< tt) (pick_outer (pick_under top keys.1.1.1.1.1.1.1.0))) file
+      (record {
+        has_rows = λ solver. absurd (not_rows RecordedCase (get_member (codes "solver") tree) is (λ e. cc) keys.0 solver);
+        rows = no_rows (not_there RecordedCase (codes "row") refl tree known);
+        has_records = λ _. records_there records;
+        records = sound_records top records tables.1.1.1.1.1.1.1.1.0;
+        no_out = λ _. no_out (not_there RecordedCase (codes "out") refl tree known);
+        alpha = other RecordedCase (codes "alpha") known refl;
+        beta = other RecordedCase (codes "beta") known refl;
+        stiff = other RecordedCase (codes "stiff") known refl;
+        damp = other RecordedCase (codes "damp") known refl;
+        gain = other RecordedCase (codes "gain") known refl;
+        rate = other RecordedCase (codes "rate") known refl;
       })
 
   -- a file without a listed solver breaks a rule
@@ -213,4 +279,4 @@ module _ (place : Place) (tree : Members) where
 pub case_in_order : (number : ℕ) (tree : Members) → IsInOrder (case_top number tree) → IsSoundCaseFile (case_of tree)
 case_in_order number tree in_order =
     let solver = get_member (codes "solver") tree in
-    of_case_kinds (Sound (Case number) tree) solver (sound_of_rows (Case number) tree) (sound_of_rod (Case number) tree) (sound_of_spring (Case number) tree) (sound_of_any (Case number) tree) refl in_order
+    of_case_kinds (Sound (Case number) tree) solver (sound_of_rows (Case number) tree) (sound_of_rod (Case number) tree) (sound_of_spring (Case number) tree) (sound_of_recorded (Case number) tree) (sound_of_any (Case number) tree) refl in_order

@@ -7,8 +7,9 @@ use Rattle.cpl_tables.specs.Values.{list_of, number_of_pair}
 use Rattle.cpl_config.specs.TreeValues.{integer_of, units_of, members_of, text_at, integer_at, units_list_at, list_at, tables_at, integer_if}
 use Rattle.line_solvers.specs.declared.case.Pair.{Pair}
 use Rattle.line_solvers.specs.declared.case.RowParts.{RowParts}
+use Rattle.line_solvers.specs.declared.case.RecordEntry.{RecordEntry}
 use Rattle.line_solvers.specs.declared.case.SolverKind.{SolverKind}
-use Rattle.line_solvers.specs.declared.case.SolverKind.TheVariants.{Rows, Rod, Spring}
+use Rattle.line_solvers.specs.declared.case.SolverKind.TheVariants.{Rows, Rod, Spring, Recorded}
 use Rattle.line_solvers.specs.declared.case.ReadWhen.{ReadWhen}
 use Rattle.line_solvers.specs.declared.case.ReadWhen.TheVariants.{End, Start}
 use Rattle.case_files.specs.declared.case_file.CaseFile.{CaseFile}
@@ -18,7 +19,11 @@ use Rattle.case_files.specs.declared.case_file.LinePoints.{LinePoints}
 -- Words: the last listed one stands for what is not listed, too.
 
 abbrev pub solver_of : List ℕ → SolverKind
-solver_of word = if bytes_eq word (codes "rows") then Rows else if bytes_eq word (codes "rod") then Rod else Spring
+solver_of word =
+    if bytes_eq word (codes "rows") then Rows
+    else if bytes_eq word (codes "rod") then Rod
+    else if bytes_eq word (codes "spring") then Spring
+    else Recorded
 
 abbrev pub read_when_of : List ℕ → ReadWhen
 read_when_of word = if bytes_eq word (codes "start") then Start else End
@@ -68,6 +73,12 @@ row_of members =
 abbrev pub rows_of : Data → List RowParts
 rows_of value = map row_of (map members_of (list_of value))
 
+abbrev pub record_of : Members → RecordEntry
+record_of members = record { dt = integer_at (codes "dt") members; writes = units_list_at (codes "writes") members }
+
+abbrev pub records_of : Data → List RecordEntry
+records_of value = map record_of (map members_of (list_of value))
+
 abbrev pub line_of : Members → LinePoints
 line_of members =
     record {
@@ -100,6 +111,7 @@ case_of members =
       forbid = units_if (codes "forbid") members;
       mesh = map case_mesh_of (tables_at (codes "mesh") members);
       row = option_map rows_of (get_member (codes "row") members);
+      records = option_map records_of (get_member (codes "record") members);
       alpha = units_or_zero (codes "alpha") members;
       beta = units_or_zero (codes "beta") members;
       stiff = units_or_zero (codes "stiff") members;

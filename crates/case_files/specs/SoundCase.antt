@@ -1,13 +1,11 @@
 -- A case file whose names, numbers and lists are within their ranges and limits, and whose meshes have names of their own. The project's own.
-use Rattle.std.specs.Prelude.{◌≡◌, ◌≤◌, ◌^◌, ℕ, List, length, map, All, IfSome, IsSome, IsTrue, ℤ}
+use Rattle.std.specs.Prelude.{◌≡◌, ◌≤◌, ◌^◌, List, length, map, All, IfSome, IsSome, IsNone, IsTrue, ℤ}
 use Rattle.cpl_tables.specs.Values.{are_distinct_texts}
-use Rattle.cpl_tables.specs.declared.shapes.Range.{Range}
 use Rattle.cpl_tables.specs.declared.shapes.Range.TheVariants.{Within, Between}
 use Rattle.cpl_config.specs.SoundConfig.{IsName, IsIn}
-use Rattle.line_solvers.specs.declared.case.Pair.{Pair}
 use Rattle.line_solvers.specs.declared.case.RowParts.{RowParts}
-use Rattle.line_solvers.specs.declared.case.SolverKind.{SolverKind}
-use Rattle.line_solvers.specs.declared.case.SolverKind.TheVariants.{Rows}
+use Rattle.line_solvers.specs.declared.case.RecordEntry.{RecordEntry}
+use Rattle.line_solvers.specs.declared.case.SolverKind.TheVariants.{Rows, Recorded}
 use Rattle.case_files.specs.declared.case_file.CaseFile.{CaseFile}
 use Rattle.case_files.specs.declared.case_file.CaseMesh.{CaseMesh}
 use Rattle.case_files.specs.declared.case_file.LinePoints.{LinePoints}
@@ -35,6 +33,14 @@ pub record IsSoundRow (row : RowParts) : Type 0 where
   pub few_reads : length row.reads ≤ 64
   pub reads : All (λ pair. IsCoefficient pair.number) row.reads
 
+pub record IsSoundRecord (entry : RecordEntry) : Type 0 where
+  pub dt : IsIn (Between 1 (10 ^ 9)) entry.dt
+  pub writes : All IsValueUnits entry.writes
+
+pub record IsRecordList (records : List RecordEntry) : Type 0 where
+  pub few : length records ≤ 10000
+  pub each : All IsSoundRecord records
+
 pub record IsPointList (points : List (List ℤ)) : Type 0 where
   pub few : length points ≤ 10000
   pub coordinates : All (All IsCoordinateUnits) points
@@ -59,6 +65,9 @@ pub record IsSoundCaseFile (case_file : CaseFile) : Type 0 where
   pub mesh_once : IsTrue (are_distinct_texts (map (λ mesh. mesh.name) case_file.mesh))
   pub has_rows : case_file.solver ≡ Rows → IsSome case_file.row
   pub rows : IfSome case_file.row (All IsSoundRow)
+  pub has_records : case_file.solver ≡ Recorded → IsSome case_file.records
+  pub records : IfSome case_file.records IsRecordList
+  pub no_out : case_file.solver ≡ Recorded → IsNone case_file.out
   pub alpha : IsCoefficient case_file.alpha
   pub beta : IsCoefficient case_file.beta
   pub stiff : IsCoefficient case_file.stiff

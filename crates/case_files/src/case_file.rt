@@ -1,5 +1,5 @@
 use fixed_num::{Items, Name};
-use line_solvers::{ReadWhen, RowParts, SolverKind};
+use line_solvers::{ReadWhen, RecordEntry, RowParts, SolverKind};
 
 /// A participant's case file, as it means it.
 ///
@@ -19,13 +19,15 @@ pub struct CaseFile {
     pub fill: Option<i64>,
     /// and how many components there are, from 1 to 60,000.
     pub count: Option<i64>,
-    /// Which components of the state are written, by index from 0.
+    /// Which components of the state are written, by index from 0; None for a recorded participant.
     pub out: Option<Items<i64>>,
     /// The absolute value from which on a component faults its step, in units.
     pub forbid: Option<i64>,
     pub mesh: Items<CaseMesh>,
     /// A row for each component; of the rows solver alone.
     pub row: Option<Items<RowParts>>,
+    /// At most 10,000 records, in the order of the steps; of a recorded participant alone.
+    pub records: Option<Items<RecordEntry>>,
     /// The coefficients of a rod, in units; zero where they are left out.
     pub alpha: i64,
     pub beta: i64,

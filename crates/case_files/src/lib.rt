@@ -5,6 +5,7 @@ pub mod case_file;
 mod keys;
 pub mod laws;
 mod lists;
+mod parts;
 pub mod read;
 mod tables;
 #[cfg(test)]
@@ -12,5 +13,5 @@ mod tests;
 mod words;
 
 pub use case_file::{CaseFile, CaseMesh, LinePoints};
-pub use laws::case_tree_without_fault_is_sound;
+pub use laws::{case_tree_without_fault_is_sound, listed_words_have_their_meanings};
 pub use read::read_case;

@@ -15,7 +15,7 @@ use crate::case_file::CaseFile;
 use cpl_config::ConfigErr;
 use cpl_config::read::{MOST_BYTES, SIZE_RULE, TEXT_RULE};
 use cpl_config::tables_of::FromTable;
-use cpl_rules::{Refusal, Spot, first_refusal};
+use cpl_rules::{Refusal, TableSpot, first_refusal};
 use cpl_tables::Place;
 use plan_order::PartId;
 use std::alloc::Global;
@@ -84,7 +84,7 @@ fn table_case(alloc: Global, part: PartId, table: &Table) -> Result<CaseFile, Co
     requires { part < 64 }
     ensures { Answers (case_acceptance_of_tree part (Some (table_view table.now))) result }
 {
-    match first_refusal(alloc, Spot::of_case(part + 1, table))? {
+    match first_refusal(alloc, TableSpot::of_case(part + 1, table))? {
         Some(refusal) => Err(ConfigErr::Refused(refusal)),
         None => Ok(CaseFile::from_table(alloc, table)?),
     }

@@ -1,4 +1,4 @@
-//! Case files that are accepted or refused: each is one of three with one change.
+//! Case files that are accepted or refused: each is one of four with one change.
 mod lengths;
 mod rules;
 mod whole;
@@ -55,12 +55,27 @@ mesh = [
 ]
 "#;
 
-/// The three case files that are changed.
+const RECORDED: &str = r#"solver = "recorded"
+step = 10
+state = ["0", 0]
+mesh = []
+
+[[record]]
+dt = 5
+writes = ["2"]
+
+[[record]]
+dt = 1000000000
+writes = [-10000000]
+"#;
+
+/// The case files that are changed.
 #[derive(Clone, Copy)]
 enum Base {
     Rows,
     Rod,
     Spring,
+    Recorded,
 }
 
 impl Base {
@@ -69,6 +84,7 @@ impl Base {
             Base::Rows => ROWS,
             Base::Rod => ROD,
             Base::Spring => SPRING,
+            Base::Recorded => RECORDED,
         }
     }
 }

@@ -11,7 +11,8 @@ pub(crate) fn solver_of(word: &str) -> SolverKind
     match word {
         "rows" => SolverKind::Rows,
         "rod" => SolverKind::Rod,
-        _ => SolverKind::Spring,
+        "spring" => SolverKind::Spring,
+        _ => SolverKind::Recorded,
     }
 }
 

@@ -2,7 +2,9 @@ pub mod Faults
 pub mod SoundValues
 pub mod SoundRules
 pub mod SoundTables
+pub mod KnownKeys
 pub mod SoundKinds
+pub mod FormatOne
 pub mod SoundPicks
 pub mod SoundCounts
 pub mod SoundConfigs

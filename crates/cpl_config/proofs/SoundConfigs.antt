@@ -1,11 +1,13 @@
 -- A file whose tables break no rule means a sound configuration.
-use Rattle.std.proofs.Common.{◌≡◌, ℕ, ◌<◌, ◌≤◌, List, [], ◌∷◌, ◌++◌, length, get_or, map, flat_map, codes, IsTrue, None, refl, sym, ap, ◌∙◌, subst, lit<}
+use Rattle.std.proofs.Common.{◌≡◌, ℕ, ◌<◌, ◌≤◌, List, [], ◌∷◌, ◌++◌, length, get_or, map, flat_map, codes, pos, All, IsTrue, None, refl, sym, ap, ◌∙◌, subst, lit<, arith}
 use Rattle.std.specs.List.{AllByRecursion}
 use Rattle.std.proofs.lemmas.List.{length-map, map-append}
 use Rattle.std.proofs.lemmas.List.Folds.{flat_map-map}
 use Rattle.std.proofs.lemmas.Simd.{map-map}
-use Rattle.toml.specs.Data.{Members}
+use Rattle.toml.specs.Data.{Members, get_member}
 use Rattle.cpl_tables.specs.declared.kinds.TableKind.{TableKind}
+use Rattle.cpl_tables.specs.declared.kinds.Format.{Format}
+use Rattle.cpl_tables.specs.declared.kinds.Format.TheVariants.{One, Two}
 use Rattle.cpl_tables.specs.declared.kinds.TableKind.TheVariants.{Config, Data, Mesh, Participant, Watch, Scheme, Exchange}
 use Rattle.cpl_tables.specs.declared.places.Place.{Place}
 use Rattle.cpl_tables.specs.declared.shapes.Presence.TheVariants.{Optional}
@@ -14,19 +16,20 @@ use Rattle.cpl_tables.specs.KeyRule.{KeyRule}
 use Rattle.cpl_tables.specs.Keys.{keys_of}
 use Rattle.cpl_tables.specs.Values.{are_distinct_texts}
 use Rattle.cpl_rules.specs.declared.rules.Rule.{Rule}
-use Rattle.cpl_rules.specs.declared.rules.Rule.TheVariants.{MissingKey, WrongType, BadSpelling, BadLength, Repeated}
+use Rattle.cpl_rules.specs.declared.rules.Rule.TheVariants.{UnknownKey, MissingKey, WrongType, BadSpelling, BadLength, Repeated}
 use Rattle.cpl_rules.specs.Seen.{Seen}
-use Rattle.cpl_rules.specs.SeenTables.{tables_under, tables_in, each_with_inner, all_tables, config_top}
+use Rattle.cpl_rules.specs.SeenTables.{tables_under, tables_in, each_with_inner, all_tables, format_of, config_top}
 use Rattle.cpl_rules.specs.BrokenRules.{breaks}
 use Rattle.cpl_rules.specs.Refused.{refusal_of, IsInOrder}
 use Rattle.cpl_rules.proofs.RuleSteps.{refusal-says}
-use Rattle.cpl_config.specs.TreeValues.{tables_at}
+use Rattle.cpl_config.specs.TreeValues.{integer_at, tables_at}
 use Rattle.cpl_config.specs.ConfigOf.{data_of, mesh_of, participant_of, watch_of, scheme_of, exchange_of, config_of}
-use Rattle.cpl_config.specs.SoundConfig.{IsSoundData, IsSoundMesh, IsSoundParticipant, IsSoundScheme, IsSoundConfig, all_watches, all_exchanges}
+use Rattle.cpl_config.specs.SoundConfig.{IsSoundData, IsSoundMesh, IsSoundParticipant, IsSoundScheme, IsPlain, IsSoundConfig, all_watches, all_exchanges}
 use Rattle.cpl_config.proofs.SoundValues.{integer_there, integer_if_there, within_limits}
 use Rattle.cpl_config.proofs.SoundRules.{IsKept, each_kept, AreRight, IsRightSeen, all_right}
 use Rattle.cpl_config.proofs.SoundTables.{IsRightWithin, all_within, AllUnder, by_keys, under}
-use Rattle.cpl_config.proofs.SoundKinds.{sound_data, sound_mesh, sound_participant, sound_scheme}
+use Rattle.cpl_config.proofs.FormatOne.{format_one, plain_window, IsNearest, plain_maps, plain_actions}
+use Rattle.cpl_config.proofs.SoundKinds.{participant_at, sound_data, sound_mesh, sound_participant, sound_scheme}
 use Rattle.cpl_config.proofs.SoundPicks.{IsPick, passed, pick_at, pick_outer, pick_under, pick_inner, flat_map-flat_map}
 use Rattle.cpl_config.proofs.SoundCounts.{few_picked, distinct_picked}
 
@@ -40,7 +43,7 @@ pub checked : (top : Seen) → IsInOrder top → IsChecked (all_tables top)
 checked top in_order =
     let kept : (rule : Rule) → IsKept (breaks rule) [] (all_tables top) = λ rule. each_kept (breaks rule) (all_tables top) (in_order rule) in
     record {
-      right = all_right [] (all_tables top) (kept MissingKey) (kept WrongType) (kept BadSpelling) (kept BadLength) (kept Repeated);
+      right = all_right [] (all_tables top) (kept UnknownKey) (kept MissingKey) (kept WrongType) (kept BadSpelling) (kept BadLength) (kept Repeated);
       few = kept BadLength;
       once = kept Repeated;
     }
@@ -59,11 +62,20 @@ pick_of_all {kind} {trees} top index within pick =
     (sym (flat_map-flat_map (λ outer. outer ∷ tables_in outer) (tables_under top) (keys_of top.kind)))
     (pick_at (λ key. each_with_inner (tables_under top key)) (keys_of top.kind) index no_key within pick))
 
-pick_watches : (place : Place) (tree : Members) → IsRightWithin (record { place = place; kind = Participant; members = tree })
-    → IsPick Watch (tables_at (codes "watch") tree) (tables_in (record { place = place; kind = Participant; members = tree }))
-pick_watches place tree right =
-    let seen : Seen = record { place = place; kind = Participant; members = tree } in
-    pick_at (tables_under seen) (keys_of Participant) 7 no_key (lit< tt) (pick_under seen right.itself.keys.1.1.1.1.1.1.1.0)
+-- the keys that both formats have come first
+config_key : (format : Format) (index : ℕ) → index < 8 → index < length (keys_of (Config format))
+config_key One index within = within
+config_key Two index within = omega arith
+
+participant_key : (format : Format) (index : ℕ) → index < 8 → index < length (keys_of (Participant format))
+participant_key One index within = within
+participant_key Two index within = omega arith
+
+pick_watches : (format : Format) (place : Place) (tree : Members) → IsRightWithin (participant_at format place tree)
+    → IsPick Watch (tables_at (codes "watch") tree) (tables_in (participant_at format place tree))
+pick_watches format place tree right =
+    let seen = participant_at format place tree in
+    pick_at (tables_under seen) (keys_of (Participant format)) 7 no_key (participant_key format 7 (lit< tt)) (pick_under seen right.itself.keys.1.1.1.1.1.1.1.0)
 
 pick_exchanges : (place : Place) (tree : Members) → IsRightWithin (record { place = place; kind = Scheme; members = tree })
     → IsPick Exchange (tables_at (codes "exchange") tree) (tables_in (record { place = place; kind = Scheme; members = tree }))
@@ -97,19 +109,23 @@ pub distinct_meant : {T : Type 0} (meaning : Members → T) (name : T → List �
     → IsTrue (are_distinct_texts (map (λ tree. name (meaning tree)) trees)) → IsTrue (are_distinct_texts (map name things))
 distinct_meant meaning name trees things are once = rw (are, map-map name meaning trees) once
 
+-- the format of a configuration
+abbrev pub format_in : Members → Format
+format_in tree = format_of (get_member (codes "format") tree)
+
 -- no rule is broken: what the file means is sound
 module _ (tree : Members) (file : IsChecked (all_tables (config_top tree))) where
-  the_keys : AreRight (keys_of Config) tree
+  the_keys : AreRight (keys_of (Config (format_in tree))) tree
   the_keys = file.right.0.keys
 
-  the_tables : AllUnder IsRightWithin (config_top tree) (keys_of Config)
-  the_tables = by_keys IsRightWithin (config_top tree) (keys_of Config) (all_within (tables_in (config_top tree)) file.right.1)
+  the_tables : AllUnder IsRightWithin (config_top tree) (keys_of (Config (format_in tree)))
+  the_tables = by_keys IsRightWithin (config_top tree) (keys_of (Config (format_in tree))) (all_within (tables_in (config_top tree)) file.right.1)
 
   watches : IsPick Watch (flat_map (tables_at (codes "watch")) (tables_at (codes "participant") tree)) (all_tables (config_top tree))
-  watches = pick_of_all (config_top tree) 6 (lit< tt) (pick_inner Participant Watch (tables_at (codes "watch")) pick_watches (config_top tree) the_keys.1.1.1.1.1.1.0 the_tables.1.1.1.1.1.1.0)
+  watches = pick_of_all (config_top tree) 6 (config_key (format_in tree) 6 (lit< tt)) (pick_inner (Participant (format_in tree)) Watch (tables_at (codes "watch")) (pick_watches (format_in tree)) (config_top tree) the_keys.1.1.1.1.1.1.0 the_tables.1.1.1.1.1.1.0)
 
   exchanges : IsPick Exchange (flat_map (tables_at (codes "exchange")) (tables_at (codes "scheme") tree)) (all_tables (config_top tree))
-  exchanges = pick_of_all (config_top tree) 7 (lit< tt) (pick_inner Scheme Exchange (tables_at (codes "exchange")) pick_exchanges (config_top tree) the_keys.1.1.1.1.1.1.1.0 the_tables.1.1.1.1.1.1.1.0)
+  exchanges = pick_of_all (config_top tree) 7 (config_key (format_in tree) 7 (lit< tt)) (pick_inner Scheme Exchange (tables_at (codes "exchange")) pick_exchanges (config_top tree) the_keys.1.1.1.1.1.1.1.0 the_tables.1.1.1.1.1.1.1.0)
 
   few_watches : length (all_watches (config_of tree)) ≤ 64
   few_watches = few_meant watch_of _ _ 64 (all_watches_are tree) (few_picked Watch 64 refl refl watches file.few)
@@ -123,17 +139,29 @@ module _ (tree : Members) (file : IsChecked (all_tables (config_top tree))) wher
   data_once : IsTrue (are_distinct_texts (map (λ table. table.name) (map data_of (tables_at (codes "data") tree))))
   data_once =
       distinct_meant data_of (λ table. table.name) (tables_at (codes "data") tree) _ refl
-      (distinct_picked Data refl (λ _ right. right.keys.0) (pick_of_all (config_top tree) 4 (lit< tt) (pick_outer (pick_under (config_top tree) the_keys.1.1.1.1.0))) file.once file.right)
+      (distinct_picked Data refl (λ _ right. right.keys.0) (pick_of_all (config_top tree) 4 (config_key (format_in tree) 4 (lit< tt)) (pick_outer (pick_under (config_top tree) the_keys.1.1.1.1.0))) file.once file.right)
 
   mesh_once : IsTrue (are_distinct_texts (map (λ table. table.name) (map mesh_of (tables_at (codes "mesh") tree))))
   mesh_once =
       distinct_meant mesh_of (λ table. table.name) (tables_at (codes "mesh") tree) _ refl
-      (distinct_picked Mesh refl (λ _ right. right.keys.0) (pick_of_all (config_top tree) 5 (lit< tt) (pick_outer (pick_under (config_top tree) the_keys.1.1.1.1.1.0))) file.once file.right)
+      (distinct_picked Mesh refl (λ _ right. right.keys.0) (pick_of_all (config_top tree) 5 (config_key (format_in tree) 5 (lit< tt)) (pick_outer (pick_under (config_top tree) the_keys.1.1.1.1.1.0))) file.once file.right)
 
   participant_once : IsTrue (are_distinct_texts (map (λ table. table.name) (map participant_of (tables_at (codes "participant") tree))))
   participant_once =
       distinct_meant participant_of (λ table. table.name) (tables_at (codes "participant") tree) _ refl
-      (distinct_picked Participant refl (λ _ right. right.keys.0) (pick_of_all (config_top tree) 6 (lit< tt) (pick_outer (pick_under (config_top tree) the_keys.1.1.1.1.1.1.0))) file.once file.right)
+      (distinct_picked (Participant (format_in tree)) refl (λ _ right. right.keys.0) (pick_of_all (config_top tree) 6 (config_key (format_in tree) 6 (lit< tt)) (pick_outer (pick_under (config_top tree) the_keys.1.1.1.1.1.1.0))) file.once file.right)
+
+  plain_checked : integer_at (codes "format") tree ≡ pos 1 → IsPlain (config_of tree)
+  plain_checked is_one =
+      let format = format_in tree in
+      let one : format ≡ One = format_one (get_member (codes "format") tree) is_one in
+      let key = the_keys.1.1.1.1.1.1.0 in
+      let tables = the_tables.1.1.1.1.1.1.0 in
+      record {
+        windows = plain_window format one tree file.right.0.known;
+        maps = under (Participant format) IsRightWithin (λ table. All IsNearest table.map) participant_of (plain_maps format one) (config_top tree) key tables;
+        actions = under (Participant format) IsRightWithin (λ table. table.action ≡ []) participant_of (plain_actions format one) (config_top tree) key tables;
+      }
 
   sound_checked : IsSoundConfig (config_of tree)
   sound_checked =
@@ -141,6 +169,7 @@ module _ (tree : Members) (file : IsChecked (all_tables (config_top tree))) wher
       let tables = the_tables.1.1.1.1 in
       record {
         format = integer_there the_keys.0;
+        plain = plain_checked;
         window = integer_there the_keys.1.0;
         max_time = integer_if_there the_keys.1.1.0;
         max_windows = integer_if_there the_keys.1.1.1.0;
@@ -150,7 +179,7 @@ module _ (tree : Members) (file : IsChecked (all_tables (config_top tree))) wher
         meshes = under Mesh IsRightWithin IsSoundMesh mesh_of (λ _ inner right. sound_mesh inner right.itself) (config_top tree) lists.1.0 tables.1.0;
         few_meshes = (within_limits mesh_of lists.1.0).1;
         mesh_once = mesh_once;
-        participants = under Participant IsRightWithin IsSoundParticipant participant_of sound_participant (config_top tree) lists.1.1.0 tables.1.1.0;
+        participants = under (Participant (format_in tree)) IsRightWithin IsSoundParticipant participant_of (sound_participant (format_in tree)) (config_top tree) lists.1.1.0 tables.1.1.0;
         a_participant = (within_limits participant_of lists.1.1.0).0;
         few_participants = (within_limits participant_of lists.1.1.0).1;
         participant_once = participant_once;

@@ -11,9 +11,9 @@ use Rattle.cpl_tables.specs.declared.shapes.Shape.{Shape}
 use Rattle.cpl_tables.specs.KeyRule.{KeyRule}
 use Rattle.cpl_tables.specs.Keys.{keys_of}
 use Rattle.cpl_tables.specs.Values.{has_type, is_spelled, has_length, has_no_repeat}
-use Rattle.cpl_rules.specs.declared.rules.Rule.TheVariants.{MissingKey, WrongType, BadSpelling, BadLength, Repeated}
+use Rattle.cpl_rules.specs.declared.rules.Rule.TheVariants.{UnknownKey, MissingKey, WrongType, BadSpelling, BadLength, Repeated}
 use Rattle.cpl_rules.specs.Seen.{Seen, value_at}
-use Rattle.cpl_rules.specs.BrokenRules.{is_required, lacks, key_breaks, is_over_limit, is_second, breaks}
+use Rattle.cpl_rules.specs.BrokenRules.{names_in, is_listed, is_required, lacks, key_breaks, is_over_limit, is_second, breaks}
 use Rattle.cpl_rules.specs.FirstBroken.{IsUnbroken}
 use Rattle.cpl_config.proofs.SoundValues.{IsRightAt}
 
@@ -46,6 +46,7 @@ AreRight (key ∷ keys) members = IsRightAt key.presence key.shape (get_member k
 
 pub record IsRightTable (kind : TableKind) (members : Members) : Type 0 where
   pub keys : AreRight (keys_of kind) members
+  pub known : IsFalse (list_any (λ name. not (is_listed kind name)) (names_in members))
 
 abbrev pub IsRightSeen : Seen → Type 0
 IsRightSeen seen = IsRightTable seen.kind seen.members
@@ -82,18 +83,20 @@ right_keys seen (key ∷ keys) there typed spelled long once =
 
 -- no rule is broken at a table of the list: each of them is right
 pub all_right : (before tables : List Seen)
+    → IsKept (breaks UnknownKey) before tables
     → IsKept (breaks MissingKey) before tables
     → IsKept (breaks WrongType) before tables
     → IsKept (breaks BadSpelling) before tables
     → IsKept (breaks BadLength) before tables
     → IsKept (breaks Repeated) before tables
     → AllByRecursion IsRightSeen tables
-all_right before [] there typed spelled long once = tt
-all_right before (table ∷ tables) there typed spelled long once = (
+all_right before [] known there typed spelled long once = tt
+all_right before (table ∷ tables) known there typed spelled long once = (
   record {
     keys = right_keys table (keys_of table.kind) there.0 typed.0 spelled.0
         (or_parts (list_any (key_breaks BadLength table) (keys_of table.kind)) (is_over_limit before table) long.0).0
         (or_parts (list_any (key_breaks Repeated table) (keys_of table.kind)) (is_second before table) once.0).0;
+    known = known.0;
   },
-  all_right (before ++ table ∷ []) tables there.1 typed.1 spelled.1 long.1 once.1,
+  all_right (before ++ table ∷ []) tables known.1 there.1 typed.1 spelled.1 long.1 once.1,
 )

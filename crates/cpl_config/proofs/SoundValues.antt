@@ -97,16 +97,26 @@ numbers_there {range} {o = Some value} right = numbers_spelled range value right
 
 -- Lists of names
 
-name_list : (value : Data) → IsRight Names value → IsNameList (map text_of (list_of value))
+name_list : {limit : Limit} (value : Data) → IsRight (Names limit) value → IsNameList (map text_of (list_of value))
 name_list value right = record { each = All-map IsName text_of (list_of value) (AllPass-from_list_all is_name_text (list_of value) right.spelled); once = right.once }
 
-pub names_there : {o : Option Data} → IsRightAt Required Names o → IsNameList (map text_of (option_map_or list_of o []))
+pub names_there : {limit : Limit} {o : Option Data} → IsRightAt Required (Names limit) o → IsNameList (map text_of (option_map_or list_of o []))
 names_there {o = None} right = absurd (false≢true right.fits)
 names_there {o = Some value} right = name_list value right.fits
 
-pub names_if : {o : Option Data} → IsRightAt Optional Names o → IfSome (option_map (λ value. map text_of (list_of value)) o) IsNameList
+pub names_if : {limit : Limit} {o : Option Data} → IsRightAt Optional (Names limit) o → IfSome (option_map (λ value. map text_of (list_of value)) o) IsNameList
 names_if {o = None} right = tt
 names_if {o = Some value} right = name_list value right.fits
+
+-- a list of names is no longer than its limit
+long_names : (least most : ℕ) (items : List Data) → IsTrue (is_within (ItemsLimit least most) (length items)) → length (map text_of items) ≤ most
+long_names least most items within =
+    let both = and_parts (nat_le least (length items)) (nat_le (length items) most) within in
+    simp length-map (leb-true (length items) most both.1)
+
+pub few_names : {least most : ℕ} {o : Option Data} → IsRightAt Required (Names (ItemsLimit least most)) o → length (map text_of (option_map_or list_of o [])) ≤ most
+few_names {least} {most} {o = None} right = absurd (false≢true right.fits)
+few_names {least} {most} {o = Some value} right = long_names least most (list_of value) right.fits.long
 
 -- Lists of tables
 

@@ -3,12 +3,18 @@ use Rattle.std.specs.Prelude.{ℕ, true, false, List, map, pos, option_map, code
 use Rattle.std.specs.Str.{bytes_eq}
 use Rattle.toml.specs.Data.{Members, get_member}
 use Rattle.cpl_config.specs.TreeValues.{members_of, text_at, integer_at, units_at, texts_at, units_list_at, tables_at, integer_or, truth_or, text_if, integer_if, texts_if}
+use Rattle.cpl_config.specs.declared.kind_words.WindowWord.{WindowWord}
+use Rattle.cpl_config.specs.declared.kind_words.WindowWord.TheVariants.{Fixed, FirstParticipant}
 use Rattle.cpl_config.specs.declared.kind_words.DataKind.{DataKind}
 use Rattle.cpl_config.specs.declared.kind_words.DataKind.TheVariants.{Scalar, Vector}
 use Rattle.cpl_config.specs.declared.kind_words.Direction.{Direction}
 use Rattle.cpl_config.specs.declared.kind_words.Direction.TheVariants.{Read, Write}
 use Rattle.cpl_config.specs.declared.kind_words.Constraint.{Constraint}
 use Rattle.cpl_config.specs.declared.kind_words.Constraint.TheVariants.{Consistent, Conservative}
+use Rattle.cpl_config.specs.declared.kind_words.MapWord.{MapWord}
+use Rattle.cpl_config.specs.declared.kind_words.MapWord.TheVariants.{NearestNeighbor, NearestProjection}
+use Rattle.cpl_config.specs.declared.kind_words.ActionWord.{ActionWord}
+use Rattle.cpl_config.specs.declared.kind_words.ActionWord.TheVariants.{Summation}
 use Rattle.cpl_config.specs.declared.kind_words.KindWord.{KindWord}
 use Rattle.cpl_config.specs.declared.kind_words.KindWord.TheVariants.{SerialExplicit, ParallelExplicit, SerialImplicit, ParallelImplicit, Multi}
 use Rattle.cpl_config.specs.declared.kind_words.MeasureWord.{MeasureWord}
@@ -23,12 +29,16 @@ use Rattle.cpl_config.specs.declared.config.ReceivesEntry.{ReceivesEntry}
 use Rattle.cpl_config.specs.declared.config.DataEntry.{DataEntry}
 use Rattle.cpl_config.specs.declared.config.MapEntry.{MapEntry}
 use Rattle.cpl_config.specs.declared.config.WatchEntry.{WatchEntry}
+use Rattle.cpl_config.specs.declared.config.ActionEntry.{ActionEntry}
 use Rattle.cpl_config.specs.declared.config.SchemeTable.{SchemeTable}
 use Rattle.cpl_config.specs.declared.config.ExchangeEntry.{ExchangeEntry}
 use Rattle.cpl_config.specs.declared.config.MeasureEntry.{MeasureEntry}
 use Rattle.cpl_config.specs.declared.config.AccelEntry.{AccelEntry}
 
--- Words: the last listed one stands for what is not listed, too.
+-- Words: what is not listed stands for the default of a key that may be left out, and else for the last listed one.
+
+abbrev pub window_method_of : List ℕ → WindowWord
+window_method_of word = if bytes_eq word (codes "first-participant") then FirstParticipant else Fixed
 
 abbrev pub data_kind_of : List ℕ → DataKind
 data_kind_of word = if bytes_eq word (codes "scalar") then Scalar else Vector
@@ -38,6 +48,12 @@ direction_of word = if bytes_eq word (codes "read") then Read else Write
 
 abbrev pub constraint_of : List ℕ → Constraint
 constraint_of word = if bytes_eq word (codes "consistent") then Consistent else Conservative
+
+abbrev pub map_method_of : List ℕ → MapWord
+map_method_of word = if bytes_eq word (codes "nearest-projection") then NearestProjection else NearestNeighbor
+
+abbrev pub action_kind_of : List ℕ → ActionWord
+action_kind_of _ = Summation
 
 abbrev pub scheme_kind_of : List ℕ → KindWord
 scheme_kind_of word =
@@ -95,6 +111,7 @@ map_of members =
       from = text_at (codes "from") members;
       to = text_at (codes "to") members;
       constraint = constraint_of (text_at (codes "constraint") members);
+      method = map_method_of (text_at (codes "method") members);
     }
 
 abbrev pub watch_of : Members → WatchEntry
@@ -103,6 +120,15 @@ watch_of members =
       name = text_at (codes "name") members;
       mesh = text_at (codes "mesh") members;
       at = units_list_at (codes "at") members;
+    }
+
+abbrev pub action_of : Members → ActionEntry
+action_of members =
+    record {
+      kind = action_kind_of (text_at (codes "kind") members);
+      mesh = text_at (codes "mesh") members;
+      sources = texts_at (codes "sources") members;
+      target = text_at (codes "target") members;
     }
 
 abbrev pub participant_of : Members → PartTable
@@ -116,6 +142,7 @@ participant_of members =
       read = map data_entry_of (tables_at (codes "read") members);
       map = map map_of (tables_at (codes "map") members);
       watch = map watch_of (tables_at (codes "watch") members);
+      action = map action_of (tables_at (codes "action") members);
     }
 
 abbrev pub exchange_of : Members → ExchangeEntry
@@ -166,6 +193,7 @@ abbrev pub config_of : Members → Config
 config_of members =
     record {
       format = integer_at (codes "format") members;
+      window_method = window_method_of (text_at (codes "window-method") members);
       window = integer_at (codes "window") members;
       max_time = integer_if (codes "max-time") members;
       max_windows = integer_if (codes "max-windows") members;

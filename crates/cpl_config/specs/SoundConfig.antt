@@ -1,8 +1,10 @@
 -- A configuration whose names, texts, numbers and lists are within their ranges and limits, and whose names are distinct. The project's own.
-use Rattle.std.specs.Prelude.{◌≤◌, ◌^◌, ℕ, List, length, map, flat_map, All, IfSome, IsTrue, ℤ}
+use Rattle.std.specs.Prelude.{◌≤◌, ◌^◌, ◌≡◌, ℕ, List, [], length, map, flat_map, All, IfSome, IsTrue, ℤ, pos}
 use Rattle.cpl_tables.specs.Values.{is_name, is_short_text, is_in_range, are_distinct_texts}
 use Rattle.cpl_tables.specs.declared.shapes.Range.{Range}
 use Rattle.cpl_tables.specs.declared.shapes.Range.TheVariants.{Within, Between}
+use Rattle.cpl_config.specs.declared.kind_words.WindowWord.TheVariants.{Fixed}
+use Rattle.cpl_config.specs.declared.kind_words.MapWord.TheVariants.{NearestNeighbor}
 use Rattle.cpl_config.specs.declared.config.Config.{Config}
 use Rattle.cpl_config.specs.declared.config.DataTable.{DataTable}
 use Rattle.cpl_config.specs.declared.config.MeshTable.{MeshTable}
@@ -11,6 +13,7 @@ use Rattle.cpl_config.specs.declared.config.ReceivesEntry.{ReceivesEntry}
 use Rattle.cpl_config.specs.declared.config.DataEntry.{DataEntry}
 use Rattle.cpl_config.specs.declared.config.MapEntry.{MapEntry}
 use Rattle.cpl_config.specs.declared.config.WatchEntry.{WatchEntry}
+use Rattle.cpl_config.specs.declared.config.ActionEntry.{ActionEntry}
 use Rattle.cpl_config.specs.declared.config.SchemeTable.{SchemeTable}
 use Rattle.cpl_config.specs.declared.config.ExchangeEntry.{ExchangeEntry}
 use Rattle.cpl_config.specs.declared.config.MeasureEntry.{MeasureEntry}
@@ -54,6 +57,12 @@ pub record IsSoundWatch (entry : WatchEntry) : Type 0 where
   pub mesh : IsName entry.mesh
   pub coordinates : All (IsIn (Within (10 ^ 12))) entry.at
 
+pub record IsSoundAction (entry : ActionEntry) : Type 0 where
+  pub mesh : IsName entry.mesh
+  pub sources : IsNameList entry.sources
+  pub few_sources : length entry.sources ≤ 64
+  pub target : IsName entry.target
+
 pub record IsSoundParticipant (table : PartTable) : Type 0 where
   pub name : IsName table.name
   pub case_text : IsTrue (is_short_text table.case)
@@ -67,6 +76,8 @@ pub record IsSoundParticipant (table : PartTable) : Type 0 where
   pub maps : All IsSoundMap table.map
   pub few_maps : length table.map ≤ 64
   pub watches : All IsSoundWatch table.watch
+  pub actions : All IsSoundAction table.action
+  pub few_actions : length table.action ≤ 64
 
 pub record IsSoundExchange (entry : ExchangeEntry) : Type 0 where
   pub data_name : IsName entry.data_name
@@ -101,8 +112,15 @@ all_watches config = flat_map (λ table. table.watch) config.participant
 abbrev pub all_exchanges : Config → List ExchangeEntry
 all_exchanges config = flat_map (λ table. table.exchange) config.scheme
 
+-- what format 2 alone can say has its default
+pub record IsPlain (config : Config) : Type 0 where
+  pub windows : config.window_method ≡ Fixed
+  pub maps : All (λ table. All (λ entry. entry.method ≡ NearestNeighbor) table.map) config.participant
+  pub actions : All (λ table. table.action ≡ []) config.participant
+
 pub record IsSoundConfig (config : Config) : Type 0 where
-  pub format : IsIn (Between 1 1) config.format
+  pub format : IsIn (Between 1 2) config.format
+  pub plain : config.format ≡ pos 1 → IsPlain config
   pub window : IsIn (Between 1 (10 ^ 9)) config.window
   pub max_time : IfSome config.max_time (IsIn (Between 1 (10 ^ 15)))
   pub max_windows : IfSome config.max_windows (IsIn (Between 1 (10 ^ 6)))

@@ -1,4 +1,7 @@
-use crate::kind_words::{AccelWord, Constraint, DataKind, Direction, KindWord, MeasureWord};
+use crate::kind_words::{
+    AccelWord, ActionWord, Constraint, DataKind, Direction, KindWord, MapWord, MeasureWord,
+    WindowWord,
+};
 use fixed_num::{Items, Name};
 
 /// A configuration, as its file means it.
@@ -7,9 +10,12 @@ use fixed_num::{Items, Name};
 /// None. Numbers are in units (millionths), times in ticks.
 #[derive(Debug, Drop)]
 pub struct Config {
-    /// The format's number, 1.
+    /// The format's number, 1 or 2.
     pub format: i64,
-    /// The length of a window, in ticks, from 1 to 10^9.
+    /// What makes a window; `Fixed` where it is left out, and in format 1.
+    pub window_method: WindowWord,
+    /// The length of a window, in ticks, from 1 to 10^9. Where the first participant's step makes
+    /// the window, the greatest length.
     pub window: i64,
     /// The end of the simulation, in ticks, from 1 to 10^15.
     pub max_time: Option<i64>,
@@ -53,6 +59,8 @@ pub struct PartTable {
     pub read: Items<DataEntry>,
     pub map: Items<MapEntry>,
     pub watch: Items<WatchEntry>,
+    /// None in format 1.
+    pub action: Items<ActionEntry>,
 }
 
 /// A mesh that a participant receives, and from whom.
@@ -76,6 +84,8 @@ pub struct MapEntry {
     pub from: Name,
     pub to: Name,
     pub constraint: Constraint,
+    /// `NearestNeighbor` where it is left out, and in format 1.
+    pub method: MapWord,
 }
 
 /// A point whose nearest vertex is reported.
@@ -85,6 +95,17 @@ pub struct WatchEntry {
     pub mesh: Name,
     /// Its coordinates, in units.
     pub at: Items<i64>,
+}
+
+/// What is done with the values that a participant writes.
+#[derive(Debug, Drop)]
+pub struct ActionEntry {
+    pub kind: ActionWord,
+    pub mesh: Name,
+    /// The names of the data that are summed, at most 64.
+    pub sources: Items<Name>,
+    /// The name of the data that take the sums.
+    pub target: Name,
 }
 
 /// A coupling scheme.

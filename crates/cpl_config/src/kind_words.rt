@@ -1,3 +1,12 @@
+/// What makes a window of the coupling.
+#[derive(Clone, Copy, Debug, PartialEq, Eq)]
+pub enum WindowWord {
+    /// A fixed number of ticks.
+    Fixed,
+    /// One step of the scheme's first participant.
+    FirstParticipant,
+}
+
 /// What data have at each vertex: one component, or one for each dimension of the mesh.
 #[derive(Clone, Copy, Debug, PartialEq, Eq)]
 pub enum DataKind {
@@ -17,6 +26,21 @@ pub enum Direction {
 pub enum Constraint {
     Consistent,
     Conservative,
+}
+
+/// What of the mesh that is searched a mapping takes: its nearest vertex, or the nearest point on
+/// its edges.
+#[derive(Clone, Copy, Debug, PartialEq, Eq)]
+pub enum MapWord {
+    NearestNeighbor,
+    NearestProjection,
+}
+
+/// What an action does with the values that a participant writes.
+#[derive(Clone, Copy, Debug, PartialEq, Eq)]
+pub enum ActionWord {
+    /// The target has the sums of the sources.
+    Summation,
 }
 
 /// The kinds of coupling schemes.

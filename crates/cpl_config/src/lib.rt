@@ -16,10 +16,13 @@ pub mod values;
 mod words_of;
 
 pub use config::{
-    AccelEntry, Config, DataEntry, DataTable, ExchangeEntry, MapEntry, MeasureEntry, MeshTable,
-    PartTable, ReceivesEntry, SchemeTable, WatchEntry,
+    AccelEntry, ActionEntry, Config, DataEntry, DataTable, ExchangeEntry, MapEntry, MeasureEntry,
+    MeshTable, PartTable, ReceivesEntry, SchemeTable, WatchEntry,
 };
 pub use error::ConfigErr;
-pub use kind_words::{AccelWord, Constraint, DataKind, Direction, KindWord, MeasureWord};
-pub use laws::tree_without_fault_is_sound;
+pub use kind_words::{
+    AccelWord, ActionWord, Constraint, DataKind, Direction, KindWord, MapWord, MeasureWord,
+    WindowWord,
+};
+pub use laws::{tree_without_fault_is_sound, words_have_their_meanings};
 pub use read::read_config;

@@ -1,10 +1,10 @@
 //! What the tables of a participant mean.
-ghost use Rattle.cpl_config.specs.ConfigOf.{receives_of, data_entry_of, map_of, watch_of, participant_of};
+ghost use Rattle.cpl_config.specs.ConfigOf.{receives_of, data_entry_of, map_of, watch_of, action_of, participant_of};
 
-use crate::config::{DataEntry, MapEntry, PartTable, ReceivesEntry, WatchEntry};
+use crate::config::{ActionEntry, DataEntry, MapEntry, PartTable, ReceivesEntry, WatchEntry};
 use crate::fields::{name_at, names_at, text_at, units_list_at};
 use crate::tables_of::{FromTable, tables_at};
-use crate::words_of::{constraint_of, direction_of};
+use crate::words_of::{action_kind_of, constraint_of, direction_of, map_method_of};
 use fixed_num::Memory;
 use std::alloc::Global;
 use toml::Table;
@@ -22,6 +22,7 @@ impl FromTable for PartTable {
             read: tables_at(alloc, table, "read")?,
             map: tables_at(alloc, table, "map")?,
             watch: tables_at(alloc, table, "watch")?,
+            action: tables_at(alloc, table, "action")?,
         })
     }
 }
@@ -57,6 +58,7 @@ impl FromTable for MapEntry {
             from: name_at(alloc, table, "from")?,
             to: name_at(alloc, table, "to")?,
             constraint: constraint_of(text_at(table, "constraint")),
+            method: map_method_of(text_at(table, "method")),
         })
     }
 }
@@ -69,6 +71,19 @@ impl FromTable for WatchEntry {
             name: name_at(alloc, table, "name")?,
             mesh: name_at(alloc, table, "mesh")?,
             at: units_list_at(alloc, table, "at")?,
+        })
+    }
+}
+
+impl FromTable for ActionEntry {
+    ghost of_table = { action_of };
+
+    fn from_table(alloc: Global, table: &Table) -> Result<ActionEntry, Memory> {
+        Ok(ActionEntry {
+            kind: action_kind_of(text_at(table, "kind")),
+            mesh: name_at(alloc, table, "mesh")?,
+            sources: names_at(alloc, table, "sources")?,
+            target: name_at(alloc, table, "target")?,
         })
     }
 }

@@ -12,7 +12,7 @@ ghost use Rattle.cpl_config.specs.Answers.{Answers};
 use crate::config::Config;
 use crate::error::ConfigErr;
 use crate::tables_of::FromTable;
-use cpl_rules::{Refusal, Spot, first_refusal};
+use cpl_rules::{Refusal, TableSpot, first_refusal};
 use cpl_tables::Place;
 use std::alloc::Global;
 use toml::Table;
@@ -68,7 +68,7 @@ fn text_config(alloc: Global, text: &str) -> Result<Config, ConfigErr>
 fn table_config(alloc: Global, table: &Table) -> Result<Config, ConfigErr>
     ensures { Answers (acceptance_of_tree (Some (table_view table.now))) result }
 {
-    match first_refusal(alloc, Spot::of_config(table))? {
+    match first_refusal(alloc, TableSpot::of_config(table))? {
         Some(refusal) => Err(ConfigErr::Refused(refusal)),
         None => Ok(Config::from_table(alloc, table)?),
     }

@@ -7,7 +7,7 @@ ghost use Rattle.cpl_config.specs.ConfigOf.{data_of, mesh_of, config_of};
 
 use crate::config::{Config, DataTable, MeshTable};
 use crate::fields::{integer_at, integer_if, integer_or, list_at, name_at, names_at, text_at};
-use crate::words_of::data_kind_of;
+use crate::words_of::{data_kind_of, window_method_of};
 use fixed_num::{Items, Memory};
 use std::alloc::Global;
 use toml::{Table, Value};
@@ -55,6 +55,7 @@ impl FromTable for Config {
     fn from_table(alloc: Global, table: &Table) -> Result<Config, Memory> {
         Ok(Config {
             format: integer_at(table, "format"),
+            window_method: window_method_of(text_at(table, "window-method")),
             window: integer_at(table, "window"),
             max_time: integer_if(table, "max-time"),
             max_windows: integer_if(table, "max-windows"),

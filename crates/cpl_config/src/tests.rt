@@ -1,13 +1,12 @@
 //! Configurations that are accepted or refused: each is a small one with one or two changes.
 mod lengths;
-mod order;
 mod rules;
 mod whole;
 
 use crate::{ConfigErr, read_config};
-use cpl_rules::Refusal;
-use fixed_num::Memory;
+use cpl_tables::print_place;
 use std::alloc::Global;
+use std::test::Fail;
 
 const BASE: &str = r#"format = 1
 window = 10
@@ -59,17 +58,17 @@ exchange = [
 ]
 "#;
 
-/// The refusal of a file, or None where it is accepted.
-fn refusal_of(alloc: Global, bytes: &[u8]) -> Result<Option<Refusal>, Memory> {
+/// What is told of a file: `accepted`, or the number of the broken rule and its place.
+fn told(alloc: Global, bytes: &[u8]) -> Result<Vec<u8>, Fail> {
+    let mut text = Vec::new(alloc);
     match read_config(alloc, bytes) {
-        Ok(_) => Ok(None),
-        Err(ConfigErr::Refused(refusal)) => Ok(Some(refusal)),
-        Err(ConfigErr::Memory) => Err(Memory),
+        Ok(_) => text.extend_from_slice(b"accepted")?,
+        Err(ConfigErr::Refused(refusal)) => {
+            let number = format!(in alloc; "{} ", refusal.rule)?;
+            text.extend_from_slice(number.as_bytes())?;
+            print_place(alloc, refusal.place, "", &mut text)?;
+        }
+        Err(ConfigErr::Memory) => text.extend_from_slice(b"out of memory")?,
     }
-}
-
-/// The refusal of the base configuration with one text in place of the first of another.
-fn refusal_with(alloc: Global, text: &str, to: &str) -> Result<Option<Refusal>, Memory> {
-    let changed = BASE.replacen(alloc, text, to, 1)?;
-    refusal_of(alloc, changed.as_bytes())
+    Ok(text)
 }

@@ -1,28 +1,14 @@
--- One rule more, and what a refusal tells.
-use Rattle.std.proofs.Common.{◌≡◌, Option, Some, None, option_map, IfSome, IfNone, All, refl, ap, lit<}
-use Rattle.cpl_tables.specs.declared.places.Place.{Place}
+-- What a refusal tells.
+use Rattle.std.proofs.Common.{◌≡◌, Option, Some, None, option_map, IfSome, IfNone, All, refl, lit<}
 use Rattle.cpl_rules.specs.declared.rules.Rule.{Rule}
 use Rattle.cpl_rules.specs.declared.rules.Rule.TheVariants.{UnknownKey, MissingKey, WrongType, BadSpelling, BadLength, Repeated}
 use Rattle.cpl_rules.specs.declared.rules.Refusal.{Refusal}
 use Rattle.cpl_rules.specs.Seen.{Seen}
 use Rattle.cpl_rules.specs.SeenTables.{all_tables}
 use Rattle.cpl_rules.specs.BrokenRules.{breaks}
-use Rattle.cpl_rules.specs.FirstBroken.{at_or, first_broken, IsUnbroken}
-use Rattle.cpl_rules.specs.Refused.{number_of_rule, refused_for, table_rules, refusal_of, IsRefused, IsInOrder}
+use Rattle.cpl_rules.specs.FirstBroken.{first_broken, IsUnbroken}
+use Rattle.cpl_rules.specs.Refused.{refused_for, table_rules, refusal_of, IsRefused, IsInOrder}
 use Rattle.cpl_rules.proofs.FirstPlaces.{first_broken-none, first_broken-some}
-
--- a rule that is broken is told
-pub told_here : (rule : Rule) (found : Option Seen) (later : Option (Rule × Seen)) (place : Place) → Some place ≡ option_map (λ at. at.place) found
-    → Some (record { rule = number_of_rule rule; place = place }) ≡ option_map refused_for (at_or rule found later)
-told_here rule None later place h = cc
-told_here rule (Some at) later place h =
-    let same : place ≡ at.place = cc in
-    ap (λ p. Some (record { rule = number_of_rule rule; place = p })) same
-
--- one that is not leaves it to the later rules
-pub told_later : (rule : Rule) (found : Option Seen) (later : Option (Rule × Seen)) → None ≡ option_map (λ at. at.place) found → at_or rule found later ≡ later
-told_later rule None later h = refl
-told_later rule (Some at) later h = cc
 
 -- a refusal tells the first broken rule, and where there is none no rule is broken
 abbrev pub Says : Seen → Option Refusal → Type 0

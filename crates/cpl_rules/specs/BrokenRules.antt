@@ -73,7 +73,7 @@ is_over_limit before seen =
 abbrev pub have_own_names : TableKind → TableKind → Bool
 have_own_names DataKind DataKind = true
 have_own_names Mesh Mesh = true
-have_own_names Participant Participant = true
+have_own_names (Participant _) (Participant _) = true
 have_own_names Watch Watch = true
 have_own_names CaseMesh CaseMesh = true
 have_own_names _ _ = false

@@ -14,7 +14,7 @@ use Rattle.cpl_rules.specs.BrokenRules.{has_name}
 abbrev pub knows : Names → TableKind → List ℕ → Bool
 knows names Data name = contains_text names.of_data name
 knows names Mesh name = contains_text names.of_meshes name
-knows names Participant name = contains_text names.of_participants name
+knows names (Participant _) name = contains_text names.of_participants name
 knows names Watch name = contains_text names.of_watches name
 knows names CaseMesh name = contains_text names.of_case_meshes name
 knows names _ name = false

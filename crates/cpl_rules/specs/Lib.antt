@@ -4,3 +4,4 @@ pub mod BrokenRules
 pub mod FirstBroken
 pub mod Refused
 pub mod KnownNames
+pub mod FewItems

@@ -6,7 +6,7 @@ use Rattle.toml.specs.View.{table_view}
 use Rattle.cpl_tables.specs.declared.kinds.TableKind.{TableKind}
 use Rattle.cpl_tables.specs.declared.places.Place.{Place}
 use Rattle.cpl_tables.specs.KeyRule.{KeyRule}
-use Rattle.cpl_rules.specs.declared.spots.Spot.{Spot}
+use Rattle.cpl_rules.specs.declared.spots.TableSpot.{TableSpot}
 
 -- where it stands, what kind of table it is, and its keys with their values
 pub record Seen : Type 0 where
@@ -15,7 +15,7 @@ pub record Seen : Type 0 where
   pub members : Members
 
 -- what a table of the code stands for
-abbrev pub seen_of : Spot → Seen
+abbrev pub seen_of : TableSpot → Seen
 seen_of spot = record { place = spot.place; kind = spot.kind; members = table_view spot.table.now }
 
 -- the value of a key

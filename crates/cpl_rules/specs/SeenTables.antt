@@ -1,9 +1,12 @@
 -- The tables of a configuration or a case file, in the order of their places. The project's own.
-use Rattle.std.specs.Prelude.{ℕ, ◌+◌, List, [], ◌∷◌, flat_map, codes, Option, Some, if◌then◌else◌}
+use Rattle.std.specs.Prelude.{ℕ, ◌+◌, List, [], ◌∷◌, flat_map, codes, pos, Option, Some, if◌then◌else◌}
 use Rattle.std.specs.Str.{bytes_eq}
-use Rattle.toml.specs.Data.{Data, string, table, Members, get_member}
+use Rattle.std.specs.Ordering.{int_eq}
+use Rattle.toml.specs.Data.{Data, string, integer, table, Members, get_member}
+use Rattle.cpl_tables.specs.declared.kinds.Format.{Format}
+use Rattle.cpl_tables.specs.declared.kinds.Format.TheVariants.{One, Two}
 use Rattle.cpl_tables.specs.declared.kinds.TableKind.{TableKind}
-use Rattle.cpl_tables.specs.declared.kinds.TableKind.TheVariants.{Config, RowsCase, RodCase, SpringCase, AnyCase}
+use Rattle.cpl_tables.specs.declared.kinds.TableKind.TheVariants.{Config, RowsCase, RodCase, SpringCase, RecordedCase, AnyCase}
 use Rattle.cpl_tables.specs.declared.places.Place.TheVariants.{Config as ConfigPlace, Case}
 use Rattle.cpl_tables.specs.declared.shapes.Shape.{Shape}
 use Rattle.cpl_tables.specs.declared.shapes.Shape.TheVariants.{Tables, Table}
@@ -45,9 +48,14 @@ each_with_inner = flat_map (λ outer. outer ∷ tables_in outer)
 abbrev pub all_tables : Seen → List Seen
 all_tables top = top ∷ each_with_inner (tables_in top)
 
+-- the format of a configuration, by the value of its `format`: 2 where that is the integer 2, and else 1
+abbrev pub format_of : Option Data → Format
+format_of (Some (integer number)) = if int_eq number (pos 2) then Two else One
+format_of _ = One
+
 -- a configuration's own table
 abbrev pub config_top : Members → Seen
-config_top members = record { place = ConfigPlace; kind = Config; members = members }
+config_top members = record { place = ConfigPlace; kind = Config (format_of (get_member (codes "format") members)); members = members }
 
 -- the kind of a case file, by the word for its solver
 abbrev pub kind_of_word : List ℕ → TableKind
@@ -55,6 +63,7 @@ kind_of_word word =
     if bytes_eq word (codes "rows") then RowsCase
     else if bytes_eq word (codes "rod") then RodCase
     else if bytes_eq word (codes "spring") then SpringCase
+    else if bytes_eq word (codes "recorded") then RecordedCase
     else AnyCase
 
 abbrev pub case_kind : Option Data → TableKind

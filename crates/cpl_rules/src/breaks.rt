@@ -7,7 +7,7 @@ ghost use Rattle.cpl_rules.specs.KnownNames.{AreNamesFor};
 use crate::keys_judged::{has_unknown_key, some_key_breaks};
 use crate::names::Names;
 use crate::rules::Rule;
-use crate::spots::Spot;
+use crate::spots::TableSpot;
 use cpl_tables::TableKind;
 use fixed_num::Memory;
 use std::alloc::Global;
@@ -17,9 +17,9 @@ use std::alloc::Global;
 pub fn breaks(
     alloc: Global,
     rule: Rule,
-    before: &[Spot],
+    before: &[TableSpot],
     names: &mut Names,
-    spot: Spot,
+    spot: TableSpot,
 ) -> Result<bool, Memory>
     requires { AreNamesFor rule (map seen_of before.now) names.old }
     ensures broken { IfOk result (λ broken. broken ≡ breaks rule (map seen_of before.now) (seen_of spot.entry)) }
@@ -43,7 +43,7 @@ pub fn breaks(
 }
 
 /// Whether as many tables of the kind stand before this one as a whole file may have.
-fn is_over_limit(before: &[Spot], spot: Spot) -> bool
+fn is_over_limit(before: &[TableSpot], spot: TableSpot) -> bool
     ensures { result ≡ is_over_limit (map seen_of before.now) (seen_of spot.entry) }
 {
     match whole_file_limit(spot.kind) {
@@ -74,7 +74,7 @@ fn are_counted_together(one: TableKind, other: TableKind) -> bool
 }
 
 /// How many of the tables are counted together with this kind.
-fn count_with(kind: TableKind, spots: &[Spot]) -> usize
+fn count_with(kind: TableKind, spots: &[TableSpot]) -> usize
     ensures { result ≡ count_by (λ other. are_counted_together kind other.kind) (map seen_of spots.now) }
 {
     let mut count = 0;

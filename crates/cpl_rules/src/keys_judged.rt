@@ -6,7 +6,7 @@ ghost use Rattle.cpl_rules.specs.Seen.{seen_of};
 ghost use Rattle.cpl_rules.specs.BrokenRules.{is_listed, key_breaks, some_key_breaks, value_breaks, has_unknown_key};
 
 use crate::rules::Rule;
-use crate::spots::{Spot, value_at};
+use crate::spots::{TableSpot, value_at};
 use cpl_tables::{
     Key, Presence, Shape, TableKind, has_length, has_no_repeat, has_type, is_spelled, keys,
 };
@@ -15,7 +15,7 @@ use std::alloc::Global;
 use toml::Value;
 
 /// Whether some key of a table is not listed for it.
-pub fn has_unknown_key(spot: Spot) -> bool
+pub fn has_unknown_key(spot: TableSpot) -> bool
     ensures { result ≡ has_unknown_key (seen_of spot.entry) }
 {
     'members: for (name, _) in spot.table.iter() {
@@ -38,7 +38,7 @@ fn is_listed(kind: TableKind, name: &str) -> bool
 }
 
 /// Whether some listed key of a table breaks a rule by itself.
-pub fn some_key_breaks(alloc: Global, rule: Rule, spot: Spot) -> Result<bool, Memory>
+pub fn some_key_breaks(alloc: Global, rule: Rule, spot: TableSpot) -> Result<bool, Memory>
     ensures { IfOk result (λ broken. broken ≡ some_key_breaks rule (seen_of spot.entry)) }
 {
     'keys: for key in keys(spot.kind) {
@@ -50,7 +50,7 @@ pub fn some_key_breaks(alloc: Global, rule: Rule, spot: Spot) -> Result<bool, Me
 }
 
 /// Whether a listed key breaks a rule by itself.
-fn key_breaks(alloc: Global, rule: Rule, spot: Spot, key: &Key) -> Result<bool, Memory>
+fn key_breaks(alloc: Global, rule: Rule, spot: TableSpot, key: &Key) -> Result<bool, Memory>
     ensures { IfOk result (λ broken. broken ≡ key_breaks rule (seen_of spot.entry) (rule_of_key key.now)) }
 {
     match value_at(spot.table, key.name) {

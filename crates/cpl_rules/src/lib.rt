@@ -8,12 +8,14 @@ mod breaks;
 mod keys_judged;
 pub mod laws;
 mod names;
+pub mod over_spots;
 pub mod refusal;
 pub mod rules;
 pub mod spots;
 #[cfg(test)]
 mod tests;
 
+pub use over_spots::{SpotRules, first_broken};
 pub use refusal::first_refusal;
 pub use rules::{Refusal, Rule};
-pub use spots::{Spot, value_at};
+pub use spots::{TableSpot, value_at};

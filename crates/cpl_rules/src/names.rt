@@ -6,14 +6,14 @@ ghost use Rattle.cpl_rules.specs.Seen.{Seen, seen_of, text_at};
 ghost use Rattle.cpl_rules.specs.BrokenRules.{have_own_names, is_second};
 ghost use Rattle.cpl_rules.specs.KnownNames.{knows, AreNamesOf};
 
-use crate::spots::{Spot, value_at};
+use crate::spots::{TableSpot, value_at};
 use cpl_tables::TableKind;
 use fixed_num::Memory;
 use std::alloc::Global;
 use std::collections::BTreeSet;
 use toml::Value;
 
-/// The names of tables, kind by kind.
+/// The names of tables, kind by kind; of other kinds none is kept.
 #[derive(Drop)]
 pub struct Names {
     pub of_data: BTreeSet<String>,
@@ -46,7 +46,7 @@ impl Names {
         match kind {
             TableKind::Data => Ok(self.of_data.insert(name)?),
             TableKind::Mesh => Ok(self.of_meshes.insert(name)?),
-            TableKind::Participant => Ok(self.of_participants.insert(name)?),
+            TableKind::Participant(_) => Ok(self.of_participants.insert(name)?),
             TableKind::Watch => Ok(self.of_watches.insert(name)?),
             TableKind::CaseMesh => Ok(self.of_case_meshes.insert(name)?),
             _ => Ok(true),
@@ -54,7 +54,7 @@ impl Names {
     }
 
     /// Adds the name of a table, and answers whether an earlier table of the kind has it.
-    pub fn is_second(&mut self, alloc: Global, spot: Spot) -> Result<bool, Memory>
+    pub fn is_second(&mut self, alloc: Global, spot: TableSpot) -> Result<bool, Memory>
         ensures second { IfOk result (λ second. (before : List Seen) → AreNamesOf before self.old → second ≡ is_second before (seen_of spot.entry)) }
         ensures names { OnOk result ((before : List Seen) → AreNamesOf before self.old → AreNamesOf (before ++ seen_of spot.entry ∷ []) self.new) }
     {
@@ -66,7 +66,7 @@ impl Names {
 }
 
 /// The name of a table.
-fn name_of(spot: Spot<'_>) -> Option<&str>
+fn name_of(spot: TableSpot<'_>) -> Option<&str>
     ensures { option_copied result ≡ text_at (seen_of spot.entry) (codes "name") }
 {
     match value_at(spot.table, "name") {

@@ -39,6 +39,8 @@ impl Rule {
 /// The first broken rule of a file, and its first place.
 #[derive(Clone, Copy, Debug, PartialEq, Eq)]
 pub struct Refusal {
+    /// The rule's number.
     pub rule: u8,
+    /// Where it is broken.
     pub place: Place,
 }

@@ -1,7 +1,8 @@
-use crate::{Refusal, Spot, first_refusal};
-use cpl_tables::Place;
-use std::alloc::Global;
+use crate::{TableSpot, first_refusal};
+use cpl_tables::print_place;
+use std::alloc::{AllocError, Global};
 use std::test::Fail;
+use toml::Table;
 
 /// A configuration in which no rule is broken.
 const CONFIG: &str = r#"format = 1
@@ -61,170 +62,149 @@ add = "1"
 reads = [[0, "1"]]
 "#;
 
-/// The refusal of the base text, with another text in place of a part of it.
-fn refused(alloc: Global, case: bool, part: &str, to: &str) -> Result<Option<Refusal>, Fail> {
-    let base = if case { CASE } else { CONFIG };
-    let text = base.replacen(alloc, part, to, 1)?;
-    let table = toml::table_from_str(alloc, text.as_str())?;
-    let top = if case {
-        Spot::of_case(2, &table)
-    } else {
-        Spot::of_config(&table)
-    };
-    Ok(first_refusal(alloc, top)?)
+/// What is told of a file: `in order`, or the number of the broken rule and its place.
+fn told(alloc: Global, top: TableSpot) -> Result<Vec<u8>, Fail> {
+    let mut text = Vec::new(alloc);
+    match first_refusal(alloc, top)? {
+        Some(refusal) => {
+            let number = format!(in alloc; "{} ", refusal.rule)?;
+            text.extend_from_slice(number.as_bytes())?;
+            print_place(alloc, refusal.place, "C", &mut text)?;
+        }
+        None => text.extend_from_slice("in order".as_bytes())?,
+    }
+    Ok(text)
 }
 
-#[test]
-fn refuses_configurations(rt: HostRuntime) -> Result<(), Fail> {
-    let alloc = rt.alloc();
-    let order = "format = 2\nwindow = \"10\"\nx = 1";
-    let cases = [
-        ("format = 1", "x = 1\nformat = 1", 3, Place::Config),
-        (
-            "name = \"V\"",
-            "name = \"V\"\nx = 1",
-            3,
-            Place::DataTable(2),
-        ),
-        ("dimensions = 2", "dimension = 2", 3, Place::MeshTable(1)),
-        (
-            "name = \"B\"",
-            "name = \"B\"\nwatches = []",
-            3,
-            Place::Participant(2),
-        ),
-        (
-            "mesh = \"M\", at",
-            "x = 1, mesh = \"M\", at",
-            3,
-            Place::Watch(1, 1),
-        ),
-        ("factor", "damping", 3, Place::Acceleration(1)),
-        ("format = 1\n", "", 4, Place::Config),
-        ("case = \"b.toml\"\n", "", 4, Place::Participant(2)),
-        (
-            ", mesh = \"M\" }]\nwatch",
-            "}]\nwatch",
-            4,
-            Place::Write(1, 1),
-        ),
-        ("from = \"M\", ", "", 4, Place::Map(2, 1)),
-        ("limit = \"0.1\"", "strict = true", 4, Place::Measure(1, 1)),
-        (
-            "from = \"A\", to = \"B\", init",
-            "from = \"A\", init",
-            4,
-            Place::Exchange(1, 2),
-        ),
-        ("kind = \"serial-implicit\"\n", "", 4, Place::Scheme(1)),
-        ("window = 10", "window = \"10\"", 5, Place::Config),
-        ("window = 10", "window = 10.0", 5, Place::Config),
-        (
-            "kind = \"vector\"",
-            "kind = \"tensor\"",
-            5,
-            Place::DataTable(2),
-        ),
-        (
-            "receives = []",
-            "receives = [{ mesh = 1, from = \"B\" }]",
-            5,
-            Place::Receives(1, 1),
-        ),
-        (
-            "receives = []",
-            "receives = { mesh = \"M\", from = \"B\" }",
-            5,
-            Place::Participant(1),
-        ),
-        ("[\"0\", 1]", "[\"0\", 1.5]", 5, Place::Watch(1, 1)),
-        (
-            "initialize = true",
-            "initialize = 1",
-            5,
-            Place::Exchange(1, 2),
-        ),
-        (
-            "provides = []",
-            "provides = []\nread = [7, { data = \"U\", mesh = 1 }]",
-            5,
-            Place::Participant(2),
-        ),
-        (
-            "provides = []",
-            "provides = []\nread = [7, { data = \"U\" }]",
-            4,
-            Place::Read(2, 2),
-        ),
-        ("format = 1", "format = 2", 6, Place::Config),
-        ("dimensions = 2", "dimensions = 4", 6, Place::MeshTable(1)),
-        ("name = \"A\"", "name = \"A A\"", 6, Place::Participant(1)),
-        ("[\"0\", 1]", "[\"0\", 1000001]", 6, Place::Watch(1, 1)),
-        ("\"0.5\"", "\"1.5\"", 6, Place::Acceleration(1)),
-        ("\"0.1\"", "\"-0.1\"", 6, Place::Measure(1, 1)),
-        ("name = \"V\"", "name = \"U\"", 8, Place::DataTable(2)),
-        ("name = \"B\"", "name = \"A\"", 8, Place::Participant(2)),
-        ("[\"U\", \"V\"]", "[\"U\", \"U\"]", 8, Place::MeshTable(1)),
-        (
-            "data = [\"U\"] }",
-            "data = [\"U\", \"U\"] }",
-            8,
-            Place::Acceleration(1),
-        ),
-        (
-            "provides = []",
-            "provides = []\nwatch = [{ name = \"W\", mesh = \"M\", at = [] }]",
-            8,
-            Place::Watch(2, 1),
-        ),
-        ("format = 1\nwindow = 10", order, 3, Place::Config),
-        (
-            "format = 1\nwindow = 10",
-            "format = 2\nwindow = \"10\"",
-            5,
-            Place::Config,
-        ),
-    ];
-    for (part, to, rule, place) in cases {
-        assert!(rt;
-            refused(alloc, false, part, to)? == Some(Refusal { rule, place }),
-            "at {to}"
-        );
+/// The text with one part changed, as the parts of a line say: `^` ends a line, `~` is nothing.
+fn changed(
+    alloc: Global,
+    text: &str,
+    part: Option<&str>,
+    to: Option<&str>,
+) -> Result<String, AllocError> {
+    match (part, to) {
+        (Some(part), Some(to)) => {
+            let part = part.replace(alloc, "^", "\n")?;
+            let lines = to.replace(alloc, "^", "\n")?;
+            let to = lines.as_str().replace(alloc, "~", "")?;
+            text.replacen(alloc, part.as_str(), to.as_str(), 1)
+        }
+        _ => String::from_str(alloc, text),
     }
-    assert!(rt; refused(alloc, false, "format", "format")?.is_none());
+}
+
+/// What is told of the configuration: then its format, a part of it, and what stands in its place.
+const CONFIGS: &str = r#"3 config | 1 | format = 1 | x = 1^format = 1
+3 data 2 | 1 | name = "V" | name = "V"^x = 1
+3 mesh 1 | 1 | dimensions = 2 | dimension = 2
+3 participant 2 | 1 | name = "B" | name = "B"^watches = []
+3 participant 1 watch 1 | 1 | mesh = "M", at | x = 1, mesh = "M", at
+3 scheme 1 acceleration | 1 | factor | damping
+4 config | 1 | format = 1^ | ~
+4 participant 2 | 1 | case = "b.toml"^ | ~
+4 participant 1 write 1 | 1 | , mesh = "M" }]^watch | }]^watch
+4 participant 2 map 1 | 1 | from = "M",  | ~
+4 scheme 1 measure 1 | 1 | limit = "0.1" | strict = true
+4 scheme 1 exchange 2 | 1 | from = "A", to = "B", init | from = "A", init
+4 scheme 1 | 1 | kind = "serial-implicit"^ | ~
+5 config | 1 | window = 10 | window = "10"
+5 config | 1 | window = 10 | window = 10.0
+5 data 2 | 1 | kind = "vector" | kind = "tensor"
+5 participant 1 receives 1 | 1 | receives = [] | receives = [{ mesh = 1, from = "B" }]
+5 participant 1 | 1 | receives = [] | receives = { mesh = "M", from = "B" }
+5 participant 1 watch 1 | 1 | ["0", 1] | ["0", 1.5]
+5 scheme 1 exchange 2 | 1 | initialize = true | initialize = 1
+5 participant 2 | 1 | provides = [] | provides = []^read = [7, { data = "U", mesh = 1 }]
+4 participant 2 read 2 | 1 | provides = [] | provides = []^read = [7, { data = "U" }]
+6 config | 1 | format = 1 | format = 3
+6 mesh 1 | 1 | dimensions = 2 | dimensions = 4
+6 participant 1 | 1 | name = "A" | name = "A A"
+6 participant 1 watch 1 | 1 | ["0", 1] | ["0", 1000001]
+6 scheme 1 acceleration | 1 | "0.5" | "1.5"
+6 scheme 1 measure 1 | 1 | "0.1" | "-0.1"
+8 data 2 | 1 | name = "V" | name = "U"
+8 participant 2 | 1 | name = "B" | name = "A"
+8 mesh 1 | 1 | ["U", "V"] | ["U", "U"]
+8 scheme 1 acceleration | 1 | data = ["U"] } | data = ["U", "U"] }
+8 participant 2 watch 1 | 1 | provides = [] | provides = []^watch = [{ name = "W", mesh = "M", at = [] }]
+3 config | 1 | format = 1^window = 10 | format = 3^window = "10"^x = 1
+5 config | 1 | format = 1^window = 10 | format = 3^window = "10"
+in order | 1 | format | format
+3 config | 1 | window = 10 | window = 10^window-method = "fixed"
+3 config | 3 | window = 10 | window = 10^window-method = "fixed"
+3 config | "2" | window = 10 | window = 10^window-method = "fixed"
+in order | 2 | window = 10 | window = 10^window-method = "fixed"
+3 participant 2 map 1 | 1 | constraint | method = "nearest-projection", constraint
+3 participant 2 map 1 | 3 | constraint | method = "nearest-projection", constraint
+3 participant 2 map 1 | "2" | constraint | method = "nearest-projection", constraint
+in order | 2 | constraint | method = "nearest-projection", constraint
+3 participant 2 | 1 | provides = [] | provides = []^action = [{ kind = "summation", mesh = "M", sources = ["U"], target = "V" }]
+3 participant 2 | 3 | provides = [] | provides = []^action = [{ kind = "summation", mesh = "M", sources = ["U"], target = "V" }]
+3 participant 2 | "2" | provides = [] | provides = []^action = [{ kind = "summation", mesh = "M", sources = ["U"], target = "V" }]
+in order | 2 | provides = [] | provides = []^action = [{ kind = "summation", mesh = "M", sources = ["U"], target = "V" }]
+3 participant 2 action 1 | 2 | provides = [] | provides = []^action = [{ kind = "summation", mesh = "M", sources = [], target = "V", x = 1 }]
+4 participant 2 action 1 | 2 | provides = [] | provides = []^action = [{ kind = "summation", mesh = "M", sources = [] }]
+5 participant 2 action 1 | 2 | provides = [] | provides = []^action = [{ kind = "sum", mesh = "M", sources = [], target = "V" }]
+6 participant 2 action 1 | 2 | provides = [] | provides = []^action = [{ kind = "summation", mesh = "M", sources = [""], target = "V" }]
+8 participant 2 action 1 | 2 | provides = [] | provides = []^action = [{ kind = "summation", mesh = "M", sources = ["U", "U"], target = "V" }]"#;
+
+#[test]
+fn judges_configurations(rt: HostRuntime) -> Result<(), Fail> {
+    let alloc = rt.alloc();
+    for line in CONFIGS.lines() {
+        let mut parts = line.split(" | ");
+        let wanted = parts.next().ok_or("no line")?;
+        let number = parts.next().ok_or("no format")?;
+        let format = format!(in alloc; "format = {number}")?;
+        let base = CONFIG.replacen(alloc, "format = 1", format.as_str(), 1)?;
+        let text = changed(alloc, base.as_str(), parts.next(), parts.next())?;
+        let table: Table = toml::table_from_str(alloc, text.as_str())?;
+        let answer = told(alloc, TableSpot::of_config(&table))?;
+        assert!(rt; answer.as_slice() == wanted.as_bytes(), "{line}");
+    }
     Ok(())
 }
 
+/// What is told of the case file: then a part of it, and what stands in its place, once or twice.
+const CASES: &str = r#"3 case C | step = 10 | step = 10^alpha = 1
+3 case C | solver = "rows" | solver = "rod"
+3 case C | count = 3 | count = 3, x = 1
+4 case C | solver = "rows"^ | ~
+4 case C | [[row]]^add = "1"^reads = [[0, "1"]]^ | ~
+4 case C | , count = 3 | ~
+3 case C | solver = "rows" | solver = "recorded"
+5 case C | solver = "rows" | solver = "beam"^alpha = 1
+5 case C | reads = [[0, "1"]] | reads = [[0]]
+6 case C | step = 10 | step = 0
+6 case C | count = 3 | count = 10001
+7 case C | state = ["0"] | state = []
+8 case C | name = "N" | name = "M"
+in order | step | step
+4 case C | [[row]]^add = "1"^reads = [[0, "1"]]^ | ~ | solver = "rows"^ | solver = "recorded"^^
+3 case C | [[row]]^add = "1"^reads = [[0, "1"]]^ | ~ | solver = "rows"^ | solver = "recorded"^record = []^out = [0]^
+4 case C | [[row]]^add = "1"^reads = [[0, "1"]]^ | ~ | solver = "rows"^ | solver = "recorded"^record = [{ dt = 5 }]^
+5 case C | [[row]]^add = "1"^reads = [[0, "1"]]^ | ~ | solver = "rows"^ | solver = "recorded"^record = [{ dt = 5, writes = [0.5] }]^
+6 case C | [[row]]^add = "1"^reads = [[0, "1"]]^ | ~ | solver = "rows"^ | solver = "recorded"^record = [{ dt = 0, writes = ["1"] }]^
+in order | [[row]]^add = "1"^reads = [[0, "1"]]^ | ~ | solver = "rows"^ | solver = "recorded"^record = [{ dt = 5, writes = ["1"] }]^"#;
+
 #[test]
-fn refuses_case_files(rt: HostRuntime) -> Result<(), Fail> {
+fn judges_case_files(rt: HostRuntime) -> Result<(), Fail> {
     let alloc = rt.alloc();
-    let place = Place::Case(2);
-    let cases = [
-        ("step = 10", "step = 10\nalpha = 1", 3),
-        ("solver = \"rows\"", "solver = \"rod\"", 3),
-        ("count = 3", "count = 3, x = 1", 3),
-        ("solver = \"rows\"\n", "", 4),
-        ("[[row]]\nadd = \"1\"\nreads = [[0, \"1\"]]\n", "", 4),
-        (", count = 3", "", 4),
-        ("solver = \"rows\"", "solver = \"beam\"\nalpha = 1", 5),
-        ("reads = [[0, \"1\"]]", "reads = [[0]]", 5),
-        ("step = 10", "step = 0", 6),
-        ("count = 3", "count = 10001", 6),
-        ("state = [\"0\"]", "state = []", 7),
-        ("name = \"N\"", "name = \"M\"", 8),
-    ];
-    for (part, to, rule) in cases {
-        assert!(rt;
-            refused(alloc, true, part, to)? == Some(Refusal { rule, place }),
-            "at {to}"
-        );
+    for line in CASES.lines() {
+        let mut parts = line.split(" | ");
+        let wanted = parts.next().ok_or("no line")?;
+        let once = changed(alloc, CASE, parts.next(), parts.next())?;
+        let text = changed(alloc, once.as_str(), parts.next(), parts.next())?;
+        let table: Table = toml::table_from_str(alloc, text.as_str())?;
+        let answer = told(alloc, TableSpot::of_case(2, &table))?;
+        assert!(rt; answer.as_slice() == wanted.as_bytes(), "{line}");
     }
-    assert!(rt; refused(alloc, true, "step", "step")?.is_none());
     Ok(())
 }
 
-/// The refusal of a configuration with so many exchanges in each of two schemes.
-fn with_exchanges(alloc: Global, first: usize, second: usize) -> Result<Option<Refusal>, Fail> {
+/// What is told of a configuration with so many exchanges in each of two schemes.
+fn with_exchanges(alloc: Global, first: usize, second: usize) -> Result<Vec<u8>, Fail> {
     let exchange = "{ data = \"U\", mesh = \"M\", from = \"A\", to = \"B\" },";
     let one = exchange.repeat(alloc, first)?;
     let two = exchange.repeat(alloc, second)?;
@@ -232,31 +212,15 @@ fn with_exchanges(alloc: Global, first: usize, second: usize) -> Result<Option<R
         "format = 1\nwindow = 1\ndata = []\nmesh = []\nparticipant = [{{ name = \"A\", case = \"a\", provides = [] }}]\nscheme = [{{ kind = \"multi\", exchange = [{one}] }}, {{ kind = \"multi\", exchange = [{two}] }}]\n"
     )?;
     let table = toml::table_from_str(alloc, text.as_str())?;
-    Ok(first_refusal(alloc, Spot::of_config(&table))?)
+    told(alloc, TableSpot::of_config(&table))
 }
 
 #[test]
 fn counts_over_the_whole_file(rt: HostRuntime) -> Result<(), Fail> {
     let alloc = rt.alloc();
-    assert!(rt; with_exchanges(alloc, 200, 56)?.is_none());
-    let over = Refusal {
-        rule: 7,
-        place: Place::Exchange(2, 57),
-    };
-    assert!(rt; with_exchanges(alloc, 200, 58)? == Some(over));
-    Ok(())
-}
-
-#[test]
-fn asks_for_participants(rt: HostRuntime) -> Result<(), Fail> {
-    let alloc = rt.alloc();
-    let text =
-        "format = 1\nwindow = 1\ndata = []\nmesh = []\nparticipant = []\nscheme = [{ kind = \"multi\" }]\n";
-    let table = toml::table_from_str(alloc, text)?;
-    let none = Refusal {
-        rule: 7,
-        place: Place::Config,
-    };
-    assert!(rt; first_refusal(alloc, Spot::of_config(&table))? == Some(none));
+    let enough = with_exchanges(alloc, 200, 56)?;
+    assert!(rt; enough.as_slice() == "in order".as_bytes());
+    let over = with_exchanges(alloc, 200, 58)?;
+    assert!(rt; over.as_slice() == "7 scheme 2 exchange 57".as_bytes());
     Ok(())
 }

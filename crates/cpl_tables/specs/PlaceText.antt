@@ -1,7 +1,7 @@
 -- How a place is printed. The project's own.
 use Rattle.std.specs.Prelude.{ℕ, List, ◌++◌, codes, decimal}
 use Rattle.cpl_tables.specs.declared.places.Place.{Place}
-use Rattle.cpl_tables.specs.declared.places.Place.TheVariants.{Config, DataTable, MeshTable, Participant, Receives, Write, Read, Map, Watch, Scheme, Exchange, Measure, Acceleration, Case}
+use Rattle.cpl_tables.specs.declared.places.Place.TheVariants.{Config, DataTable, MeshTable, Participant, Receives, Write, Read, Map, Watch, Action, Scheme, Exchange, Measure, Acceleration, Case}
 
 -- words and a number
 abbrev pub numbered : List ℕ → ℕ → List ℕ
@@ -26,6 +26,7 @@ place_text _ (Write part n) = of_participant part (codes " write ") n
 place_text _ (Read part n) = of_participant part (codes " read ") n
 place_text _ (Map part n) = of_participant part (codes " map ") n
 place_text _ (Watch part n) = of_participant part (codes " watch ") n
+place_text _ (Action part n) = of_participant part (codes " action ") n
 place_text _ (Scheme n) = numbered (codes "scheme ") n
 place_text _ (Exchange scheme n) = of_scheme scheme (codes " exchange ") n
 place_text _ (Measure scheme n) = of_scheme scheme (codes " measure ") n

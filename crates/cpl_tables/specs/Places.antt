@@ -1,15 +1,15 @@
 -- Where a table of a configuration or of a case file stands. The project's own.
 use Rattle.std.specs.Prelude.{ℕ, ◌+◌, ◌-◌, ◌^◌, min}
 use Rattle.cpl_tables.specs.declared.kinds.TableKind.{TableKind}
-use Rattle.cpl_tables.specs.declared.kinds.TableKind.TheVariants.{Data, Mesh, Participant, Receives as ReceivesKind, Write as WriteKind, Read as ReadKind, Map as MapKind, Watch as WatchKind, Scheme as SchemeKind, Exchange as ExchangeKind, Measure as MeasureKind, Acceleration as AccelerationKind}
+use Rattle.cpl_tables.specs.declared.kinds.TableKind.TheVariants.{Data, Mesh, Participant, Receives as ReceivesKind, Write as WriteKind, Read as ReadKind, Map as MapKind, Watch as WatchKind, Action as ActionKind, Scheme as SchemeKind, Exchange as ExchangeKind, Measure as MeasureKind, Acceleration as AccelerationKind}
 use Rattle.cpl_tables.specs.declared.places.Place.{Place}
-use Rattle.cpl_tables.specs.declared.places.Place.TheVariants.{Config, DataTable, MeshTable, Participant as ParticipantPlace, Receives, Write, Read, Map, Watch, Scheme, Exchange, Measure, Acceleration}
+use Rattle.cpl_tables.specs.declared.places.Place.TheVariants.{Config, DataTable, MeshTable, Participant as ParticipantPlace, Receives, Write, Read, Map, Watch, Action, Scheme, Exchange, Measure, Acceleration}
 
 -- in the configuration's own table
 abbrev pub in_config : TableKind → ℕ → Place
 in_config Data n = DataTable n
 in_config Mesh n = MeshTable n
-in_config Participant n = ParticipantPlace n
+in_config (Participant _) n = ParticipantPlace n
 in_config SchemeKind n = Scheme n
 in_config _ _ = Config
 
@@ -18,8 +18,9 @@ abbrev pub in_participant : ℕ → TableKind → ℕ → Place
 in_participant p ReceivesKind n = Receives p n
 in_participant p WriteKind n = Write p n
 in_participant p ReadKind n = Read p n
-in_participant p MapKind n = Map p n
+in_participant p (MapKind _) n = Map p n
 in_participant p WatchKind n = Watch p n
+in_participant p ActionKind n = Action p n
 in_participant p _ _ = ParticipantPlace p
 
 -- in a scheme's table

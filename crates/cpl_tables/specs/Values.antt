@@ -80,7 +80,7 @@ is_word list text = list_any (bytes_eq text) (words_of list)
 
 -- the items of a list have the type that the shape asks of each
 abbrev pub is_list_of : Shape → List Data → Bool
-is_list_of Names = list_all is_text
+is_list_of (Names _) = list_all is_text
 is_list_of Integers = list_all is_integer
 is_list_of (Numbers _ _) = list_all is_number
 is_list_of (Points _ _) = list_all is_point
@@ -131,7 +131,7 @@ is_name_text value = is_name (text_of value)
 
 -- the items of a list are spelled as the shape asks of each
 abbrev pub are_spelled : Shape → List Data → Bool
-are_spelled Names = list_all is_name_text
+are_spelled (Names _) = list_all is_name_text
 are_spelled (Numbers _ range) = list_all (is_number_in range)
 are_spelled (Points _ range) = list_all (is_point_in range)
 are_spelled (Pairs _ range) = list_all (is_pair_in range)
@@ -153,6 +153,7 @@ is_within (ItemsLimit least most) count = nat_le least count && nat_le count mos
 
 -- the list is as long as the shape allows
 abbrev pub has_length : Shape → Data → Bool
+has_length (Names limit) value = is_within limit (length (list_of value))
 has_length (Numbers limit _) value = is_within limit (length (list_of value))
 has_length (Points limit _) value = is_within limit (length (list_of value))
 has_length (Pairs limit _) value = is_within limit (length (list_of value))
@@ -168,5 +169,5 @@ are_distinct_texts (text ∷ texts) = not (list_any (bytes_eq text) texts) && ar
 
 -- no name of a list of names stands in it twice
 abbrev pub has_no_repeat : Shape → Data → Bool
-has_no_repeat Names value = are_distinct_texts (map text_of (list_of value))
+has_no_repeat (Names _) value = are_distinct_texts (map text_of (list_of value))
 has_no_repeat _ _ = true

@@ -40,7 +40,7 @@ fn is_list_of(shape: Shape, items: &[Value]) -> bool
     ensures { result ≡ is_list_of shape (map view items.now) }
 {
     match shape {
-        Shape::Names => all_pass(items, &IsText),
+        Shape::Names(_) => all_pass(items, &IsText),
         Shape::Integers => all_pass(items, &IsInteger),
         Shape::Numbers(_, _) => all_pass(items, &IsNumber),
         Shape::Points(_, _) => all_pass(items, &IsPoint),
@@ -69,7 +69,7 @@ fn are_spelled(shape: Shape, items: &[Value]) -> bool
     ensures { result ≡ are_spelled shape (map view items.now) }
 {
     match shape {
-        Shape::Names => all_pass(items, &IsName),
+        Shape::Names(_) => all_pass(items, &IsName),
         Shape::Numbers(_, range) => all_pass(items, &IsNumberIn(range)),
         Shape::Points(_, range) => all_pass(items, &IsPointIn(range)),
         Shape::Pairs(_, range) => all_pass(items, &IsPairIn(range)),
@@ -82,6 +82,7 @@ pub fn has_length(shape: Shape, value: &Value) -> bool
     ensures { result ≡ has_length shape (view value.now) }
 {
     match shape {
+        Shape::Names(limit) => is_within(limit, list_of(value).len()),
         Shape::Numbers(limit, _) => is_within(limit, list_of(value).len()),
         Shape::Points(limit, _) => is_within(limit, list_of(value).len()),
         Shape::Pairs(limit, _) => is_within(limit, list_of(value).len()),
@@ -104,7 +105,7 @@ pub fn has_no_repeat(alloc: Global, shape: Shape, value: &Value) -> Result<bool,
     ensures { IfOk result (λ distinct. distinct ≡ has_no_repeat shape (view value.now)) }
 {
     match shape {
-        Shape::Names => are_distinct_texts(alloc, list_of(value)),
+        Shape::Names(_) => are_distinct_texts(alloc, list_of(value)),
         _ => Ok(true),
     }
 }

@@ -2,7 +2,7 @@ ghost use Rattle.std.specs.Prelude.{◌≡◌, map};
 ghost use Rattle.cpl_tables.specs.KeyRule.{rule_of_key};
 ghost use Rattle.cpl_tables.specs.Keys.{keys_of};
 
-use crate::kinds::TableKind;
+use crate::kinds::{Format, TableKind};
 use crate::shapes::{Key, Limit, Presence, Range, Shape};
 use crate::word_lists::WordList;
 
@@ -26,25 +26,45 @@ macro_rules! optional {
     };
 }
 
-static CONFIG: [Key; 8] = [
-    required!("format", Shape::Integer(Range::Between(1, 1))),
-    required!("window", Shape::Integer(Range::Between(1, 1_000_000_000))),
-    optional!(
-        "max-time",
-        Shape::Integer(Range::Between(1, 1_000_000_000_000_000))
-    ),
-    optional!("max-windows", Shape::Integer(Range::Between(1, 1_000_000))),
-    required!("data", Shape::Tables(TableKind::Data, Limit::Items(0, 64))),
-    required!("mesh", Shape::Tables(TableKind::Mesh, Limit::Items(0, 64))),
-    required!(
-        "participant",
-        Shape::Tables(TableKind::Participant, Limit::Items(1, 64))
-    ),
-    required!(
-        "scheme",
-        Shape::Tables(TableKind::Scheme, Limit::Items(1, 64))
-    ),
-];
+/// A number of at most a thousand in absolute value.
+macro_rules! coefficient {
+    ($name:literal) => {
+        optional!($name, Shape::Number(Range::Within(1_000_000_000)))
+    };
+}
+
+/// The keys of a configuration in a format, and those that are listed there alone.
+macro_rules! config_keys {
+    ($format:expr; $($further:expr),*) => {
+        [
+            required!("format", Shape::Integer(Range::Between(1, 2))),
+            required!("window", Shape::Integer(Range::Between(1, 1_000_000_000))),
+            optional!(
+                "max-time",
+                Shape::Integer(Range::Between(1, 1_000_000_000_000_000))
+            ),
+            optional!("max-windows", Shape::Integer(Range::Between(1, 1_000_000))),
+            required!("data", Shape::Tables(TableKind::Data, Limit::Items(0, 64))),
+            required!("mesh", Shape::Tables(TableKind::Mesh, Limit::Items(0, 64))),
+            required!(
+                "participant",
+                Shape::Tables(TableKind::Participant($format), Limit::Items(1, 64))
+            ),
+            required!(
+                "scheme",
+                Shape::Tables(TableKind::Scheme, Limit::Items(1, 64))
+            ),
+            $($further),*
+        ]
+    };
+}
+
+static CONFIG: [Key; 8] = config_keys!(Format::One;);
+
+static CONFIG_TWO: [Key; 9] = config_keys!(
+    Format::Two;
+    optional!("window-method", Shape::Word(WordList::WindowMethod))
+);
 
 static DATA: [Key; 3] = [
     required!("name", Shape::Name),
@@ -55,25 +75,44 @@ static DATA: [Key; 3] = [
 static MESH: [Key; 3] = [
     required!("name", Shape::Name),
     required!("dimensions", Shape::Integer(Range::Between(2, 3))),
-    required!("data", Shape::Names),
+    required!("data", Shape::Names(Limit::Any)),
 ];
 
-static PARTICIPANT: [Key; 8] = [
-    required!("name", Shape::Name),
-    required!("case", Shape::Text),
-    required!("provides", Shape::Names),
+/// The keys of a participant in a format, and those that are listed there alone.
+macro_rules! participant_keys {
+    ($format:expr; $($further:expr),*) => {
+        [
+            required!("name", Shape::Name),
+            required!("case", Shape::Text),
+            required!("provides", Shape::Names(Limit::Any)),
+            optional!(
+                "receives",
+                Shape::Tables(TableKind::Receives, Limit::Items(0, 64))
+            ),
+            optional!(
+                "write",
+                Shape::Tables(TableKind::Write, Limit::Items(0, 64))
+            ),
+            optional!("read", Shape::Tables(TableKind::Read, Limit::Items(0, 64))),
+            optional!(
+                "map",
+                Shape::Tables(TableKind::Map($format), Limit::Items(0, 64))
+            ),
+            optional!("watch", Shape::Tables(TableKind::Watch, Limit::Any)),
+            $($further),*
+        ]
+    };
+}
+
+static PARTICIPANT: [Key; 8] = participant_keys!(Format::One;);
+
+static PARTICIPANT_TWO: [Key; 9] = participant_keys!(
+    Format::Two;
     optional!(
-        "receives",
-        Shape::Tables(TableKind::Receives, Limit::Items(0, 64))
-    ),
-    optional!(
-        "write",
-        Shape::Tables(TableKind::Write, Limit::Items(0, 64))
-    ),
-    optional!("read", Shape::Tables(TableKind::Read, Limit::Items(0, 64))),
-    optional!("map", Shape::Tables(TableKind::Map, Limit::Items(0, 64))),
-    optional!("watch", Shape::Tables(TableKind::Watch, Limit::Any)),
-];
+        "action",
+        Shape::Tables(TableKind::Action, Limit::Items(0, 64))
+    )
+);
 
 static RECEIVES: [Key; 2] = [
     required!("mesh", Shape::Name),
@@ -90,12 +129,22 @@ static READ: [Key; 2] = [
     required!("mesh", Shape::Name),
 ];
 
-static MAP: [Key; 4] = [
-    required!("direction", Shape::Word(WordList::Direction)),
-    required!("from", Shape::Name),
-    required!("to", Shape::Name),
-    required!("constraint", Shape::Word(WordList::Constraint)),
-];
+/// The keys of a mapping, and those that are listed in a format alone.
+macro_rules! map_keys {
+    ($($further:expr),*) => {
+        [
+            required!("direction", Shape::Word(WordList::Direction)),
+            required!("from", Shape::Name),
+            required!("to", Shape::Name),
+            required!("constraint", Shape::Word(WordList::Constraint)),
+            $($further),*
+        ]
+    };
+}
+
+static MAP: [Key; 4] = map_keys!();
+
+static MAP_TWO: [Key; 5] = map_keys!(optional!("method", Shape::Word(WordList::MapMethod)));
 
 static WATCH: [Key; 3] = [
     required!("name", Shape::Name),
@@ -106,12 +155,19 @@ static WATCH: [Key; 3] = [
     ),
 ];
 
+static ACTION: [Key; 4] = [
+    required!("kind", Shape::Word(WordList::ActionKind)),
+    required!("mesh", Shape::Name),
+    required!("sources", Shape::Names(Limit::Items(0, 64))),
+    required!("target", Shape::Name),
+];
+
 static SCHEME: [Key; 10] = [
     required!("kind", Shape::Word(WordList::SchemeKind)),
     optional!("first", Shape::Name),
     optional!("second", Shape::Name),
     optional!("control", Shape::Name),
-    optional!("members", Shape::Names),
+    optional!("members", Shape::Names(Limit::Any)),
     optional!("exchange", Shape::Tables(TableKind::Exchange, Limit::Any)),
     optional!("max-iterations", Shape::Integer(Range::Between(1, 1_000))),
     optional!("min-iterations", Shape::Integer(Range::Between(1, 1_000))),
@@ -145,94 +201,70 @@ static MEASURE: [Key; 5] = [
 static ACCELERATION: [Key; 3] = [
     required!("kind", Shape::Word(WordList::AccelerationKind)),
     required!("factor", Shape::Number(Range::Between(1, 1_000_000))),
-    required!("data", Shape::Names),
+    required!("data", Shape::Names(Limit::Any)),
 ];
 
-static ROWS_CASE: [Key; 10] = [
-    required!("solver", Shape::Word(WordList::Solver)),
-    required!("step", Shape::Integer(Range::Between(1, 1_000_000_000))),
-    optional!("read", Shape::Word(WordList::ReadWhen)),
-    optional!(
-        "state",
-        Shape::Numbers(Limit::Items(1, 60_000), Range::Within(10_000_000_000_000))
-    ),
-    optional!("fill", Shape::Number(Range::Within(10_000_000_000_000))),
-    optional!("count", Shape::Integer(Range::Between(1, 60_000))),
-    optional!("out", Shape::Integers),
-    optional!(
-        "forbid",
-        Shape::Number(Range::Between(1, 10_000_000_000_000))
-    ),
-    required!("mesh", Shape::Tables(TableKind::CaseMesh, Limit::Any)),
-    required!("row", Shape::Tables(TableKind::Row, Limit::Any)),
-];
+/// The keys of every case file, and those of some kinds of solvers.
+macro_rules! case_keys {
+    ($($own:expr),*) => {
+        [
+            required!("solver", Shape::Word(WordList::Solver)),
+            required!("step", Shape::Integer(Range::Between(1, 1_000_000_000))),
+            optional!("read", Shape::Word(WordList::ReadWhen)),
+            optional!(
+                "state",
+                Shape::Numbers(Limit::Items(1, 60_000), Range::Within(10_000_000_000_000))
+            ),
+            optional!("fill", Shape::Number(Range::Within(10_000_000_000_000))),
+            optional!("count", Shape::Integer(Range::Between(1, 60_000))),
+            optional!(
+                "forbid",
+                Shape::Number(Range::Between(1, 10_000_000_000_000))
+            ),
+            required!("mesh", Shape::Tables(TableKind::CaseMesh, Limit::Any)),
+            $($own),*
+        ]
+    };
+}
 
-static ROD_CASE: [Key; 11] = [
-    required!("solver", Shape::Word(WordList::Solver)),
-    required!("step", Shape::Integer(Range::Between(1, 1_000_000_000))),
-    optional!("read", Shape::Word(WordList::ReadWhen)),
-    optional!(
-        "state",
-        Shape::Numbers(Limit::Items(1, 60_000), Range::Within(10_000_000_000_000))
-    ),
-    optional!("fill", Shape::Number(Range::Within(10_000_000_000_000))),
-    optional!("count", Shape::Integer(Range::Between(1, 60_000))),
+static ROWS_CASE: [Key; 10] = case_keys!(
     optional!("out", Shape::Integers),
-    optional!(
-        "forbid",
-        Shape::Number(Range::Between(1, 10_000_000_000_000))
-    ),
-    required!("mesh", Shape::Tables(TableKind::CaseMesh, Limit::Any)),
-    optional!("alpha", Shape::Number(Range::Within(1_000_000_000))),
-    optional!("beta", Shape::Number(Range::Within(1_000_000_000))),
-];
+    required!("row", Shape::Tables(TableKind::Row, Limit::Any))
+);
 
-static SPRING_CASE: [Key; 13] = [
-    required!("solver", Shape::Word(WordList::Solver)),
-    required!("step", Shape::Integer(Range::Between(1, 1_000_000_000))),
-    optional!("read", Shape::Word(WordList::ReadWhen)),
-    optional!(
-        "state",
-        Shape::Numbers(Limit::Items(1, 60_000), Range::Within(10_000_000_000_000))
-    ),
-    optional!("fill", Shape::Number(Range::Within(10_000_000_000_000))),
-    optional!("count", Shape::Integer(Range::Between(1, 60_000))),
+static ROD_CASE: [Key; 11] = case_keys!(
     optional!("out", Shape::Integers),
-    optional!(
-        "forbid",
-        Shape::Number(Range::Between(1, 10_000_000_000_000))
-    ),
-    required!("mesh", Shape::Tables(TableKind::CaseMesh, Limit::Any)),
-    optional!("stiff", Shape::Number(Range::Within(1_000_000_000))),
-    optional!("damp", Shape::Number(Range::Within(1_000_000_000))),
-    optional!("gain", Shape::Number(Range::Within(1_000_000_000))),
-    optional!("rate", Shape::Number(Range::Within(1_000_000_000))),
-];
+    coefficient!("alpha"),
+    coefficient!("beta")
+);
 
-static ANY_CASE: [Key; 16] = [
-    required!("solver", Shape::Word(WordList::Solver)),
-    required!("step", Shape::Integer(Range::Between(1, 1_000_000_000))),
-    optional!("read", Shape::Word(WordList::ReadWhen)),
-    optional!(
-        "state",
-        Shape::Numbers(Limit::Items(1, 60_000), Range::Within(10_000_000_000_000))
-    ),
-    optional!("fill", Shape::Number(Range::Within(10_000_000_000_000))),
-    optional!("count", Shape::Integer(Range::Between(1, 60_000))),
+static SPRING_CASE: [Key; 13] = case_keys!(
     optional!("out", Shape::Integers),
-    optional!(
-        "forbid",
-        Shape::Number(Range::Between(1, 10_000_000_000_000))
-    ),
-    required!("mesh", Shape::Tables(TableKind::CaseMesh, Limit::Any)),
+    coefficient!("stiff"),
+    coefficient!("damp"),
+    coefficient!("gain"),
+    coefficient!("rate")
+);
+
+static RECORDED_CASE: [Key; 9] = case_keys!(required!(
+    "record",
+    Shape::Tables(TableKind::Record, Limit::Items(0, 10_000))
+));
+
+static ANY_CASE: [Key; 17] = case_keys!(
+    optional!("out", Shape::Integers),
     optional!("row", Shape::Tables(TableKind::Row, Limit::Any)),
-    optional!("alpha", Shape::Number(Range::Within(1_000_000_000))),
-    optional!("beta", Shape::Number(Range::Within(1_000_000_000))),
-    optional!("stiff", Shape::Number(Range::Within(1_000_000_000))),
-    optional!("damp", Shape::Number(Range::Within(1_000_000_000))),
-    optional!("gain", Shape::Number(Range::Within(1_000_000_000))),
-    optional!("rate", Shape::Number(Range::Within(1_000_000_000))),
-];
+    coefficient!("alpha"),
+    coefficient!("beta"),
+    coefficient!("stiff"),
+    coefficient!("damp"),
+    coefficient!("gain"),
+    coefficient!("rate"),
+    optional!(
+        "record",
+        Shape::Tables(TableKind::Record, Limit::Items(0, 10_000))
+    )
+);
 
 static CASE_MESH: [Key; 3] = [
     required!("name", Shape::Name),
@@ -267,21 +299,33 @@ static ROW: [Key; 3] = [
     ),
 ];
 
+static RECORD: [Key; 2] = [
+    required!("dt", Shape::Integer(Range::Between(1, 1_000_000_000))),
+    required!(
+        "writes",
+        Shape::Numbers(Limit::Any, Range::Within(10_000_000_000_000))
+    ),
+];
+
 /// The keys that are listed for a kind of table, in the order in which the tables under them are
 /// looked at.
 pub fn keys(kind: TableKind) -> &'static [Key]
     ensures { map rule_of_key result.now ≡ keys_of kind }
 {
     match kind {
-        TableKind::Config => &CONFIG,
+        TableKind::Config(Format::One) => &CONFIG,
+        TableKind::Config(Format::Two) => &CONFIG_TWO,
         TableKind::Data => &DATA,
         TableKind::Mesh => &MESH,
-        TableKind::Participant => &PARTICIPANT,
+        TableKind::Participant(Format::One) => &PARTICIPANT,
+        TableKind::Participant(Format::Two) => &PARTICIPANT_TWO,
         TableKind::Receives => &RECEIVES,
         TableKind::Write => &WRITE,
         TableKind::Read => &READ,
-        TableKind::Map => &MAP,
+        TableKind::Map(Format::One) => &MAP,
+        TableKind::Map(Format::Two) => &MAP_TWO,
         TableKind::Watch => &WATCH,
+        TableKind::Action => &ACTION,
         TableKind::Scheme => &SCHEME,
         TableKind::Exchange => &EXCHANGE,
         TableKind::Measure => &MEASURE,
@@ -289,9 +333,11 @@ pub fn keys(kind: TableKind) -> &'static [Key]
         TableKind::RowsCase => &ROWS_CASE,
         TableKind::RodCase => &ROD_CASE,
         TableKind::SpringCase => &SPRING_CASE,
+        TableKind::RecordedCase => &RECORDED_CASE,
         TableKind::AnyCase => &ANY_CASE,
         TableKind::CaseMesh => &CASE_MESH,
         TableKind::Line => &LINE,
         TableKind::Row => &ROW,
+        TableKind::Record => &RECORD,
     }
 }

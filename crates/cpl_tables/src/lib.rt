@@ -6,6 +6,7 @@ pub mod asks;
 mod items;
 pub mod key_lists;
 pub mod kinds;
+pub mod laws;
 pub mod place_text;
 pub mod places;
 pub mod shapes;
@@ -16,7 +17,7 @@ pub mod word_lists;
 
 pub use asks::{has_length, has_no_repeat, has_type, is_spelled};
 pub use key_lists::keys;
-pub use kinds::TableKind;
+pub use kinds::{Format, TableKind};
 pub use place_text::print_place;
 pub use places::{Place, number_at};
 pub use shapes::{Key, Limit, Presence, Range, Shape};

@@ -41,6 +41,7 @@ fn push_place(alloc: Global, place: Place, name: &str, to: &mut Vec<u8>) -> Resu
         Place::Read(part, n) => push_of_participant(alloc, part, " read ", n, to),
         Place::Map(part, n) => push_of_participant(alloc, part, " map ", n, to),
         Place::Watch(part, n) => push_of_participant(alloc, part, " watch ", n, to),
+        Place::Action(part, n) => push_of_participant(alloc, part, " action ", n, to),
         Place::Scheme(n) => push_number(alloc, "scheme ", n, to),
         Place::Exchange(scheme, n) => push_of_scheme(alloc, scheme, " exchange ", n, to),
         Place::Measure(scheme, n) => push_of_scheme(alloc, scheme, " measure ", n, to),

@@ -4,7 +4,9 @@ ghost use Rattle.cpl_tables.specs.Places.{place_in, in_config, in_participant, i
 use crate::kinds::TableKind;
 
 /// Where in a configuration or its case files a table stands. Numbers count from 1; a
-/// participant's or scheme's number stands before that of its entry.
+/// participant's or scheme's number stands before that of its entry. Refusals look for the first
+/// place in the order in which the kinds are listed here, each participant and scheme followed by
+/// its own entries.
 #[derive(Clone, Copy, Debug, PartialEq, Eq)]
 pub enum Place {
     Config,
@@ -16,6 +18,7 @@ pub enum Place {
     Read(u32, u32),
     Map(u32, u32),
     Watch(u32, u32),
+    Action(u32, u32),
     Scheme(u32),
     Exchange(u32, u32),
     Measure(u32, u32),
@@ -45,7 +48,7 @@ fn in_config(kind: TableKind, number: u32) -> Place
     match kind {
         TableKind::Data => Place::DataTable(number),
         TableKind::Mesh => Place::MeshTable(number),
-        TableKind::Participant => Place::Participant(number),
+        TableKind::Participant(_) => Place::Participant(number),
         TableKind::Scheme => Place::Scheme(number),
         _ => Place::Config,
     }
@@ -58,8 +61,9 @@ fn in_participant(part: u32, kind: TableKind, number: u32) -> Place
         TableKind::Receives => Place::Receives(part, number),
         TableKind::Write => Place::Write(part, number),
         TableKind::Read => Place::Read(part, number),
-        TableKind::Map => Place::Map(part, number),
+        TableKind::Map(_) => Place::Map(part, number),
         TableKind::Watch => Place::Watch(part, number),
+        TableKind::Action => Place::Action(part, number),
         _ => Place::Participant(part),
     }
 }

@@ -14,6 +14,7 @@ pub enum Range {
 /// How many items a list may have.
 #[derive(Clone, Copy, Debug, PartialEq, Eq)]
 pub enum Limit {
+    /// Any number of items.
     Any,
     /// From the first number of items to the second.
     Items(u64, u64),
@@ -26,27 +27,36 @@ pub enum Shape {
     Name,
     /// A text of 1 to 256 bytes.
     Text,
+    /// One of the listed words.
     Word(WordList),
+    /// `true` or `false`.
     Boolean,
+    /// A whole number, as it stands.
     Integer(Range),
     /// A text of digits, or a whole number.
     Number(Range),
     /// Names, none of them twice.
-    Names,
+    Names(Limit),
+    /// Whole numbers, as they stand.
     Integers,
+    /// Numbers, in units.
     Numbers(Limit, Range),
     /// Lists of numbers.
     Points(Limit, Range),
     /// Lists of an integer and a number.
     Pairs(Limit, Range),
+    /// Tables of a kind.
     Tables(TableKind, Limit),
+    /// One table of a kind.
     Table(TableKind),
 }
 
 /// Whether a key may be left out.
 #[derive(Clone, Copy, Debug, PartialEq, Eq)]
 pub enum Presence {
+    /// The table is refused without it.
     Required,
+    /// It may be left out.
     Optional,
 }
 
@@ -54,6 +64,8 @@ pub enum Presence {
 #[derive(Clone, Copy, Debug)]
 pub struct Key {
     pub name: &'static str,
+    /// Whether it may be left out.
     pub presence: Presence,
+    /// What its value has to be.
     pub shape: Shape,
 }

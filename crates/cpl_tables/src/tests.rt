@@ -1,5 +1,5 @@
 use crate::{
-    Limit, Place, Range, Shape, TableKind, WordList, has_length, has_no_repeat, has_type,
+    Format, Limit, Place, Range, Shape, TableKind, WordList, has_length, has_no_repeat, has_type,
     is_spelled, keys, number_at, number_of, print_place, word_at, words,
 };
 use std::alloc::Global;
@@ -35,71 +35,74 @@ fn passed(alloc: Global, shape: Shape, text: &str) -> Result<usize, Fail> {
     Ok(4)
 }
 
+/// A shape, a value, and how many of the four tests it passes.
+static VALUES: [(Shape, &str, usize); 51] = [
+    (NAME, r#""A!~z""#, 4),
+    (NAME, r#""""#, 1),
+    (NAME, r#""a b""#, 1),
+    (NAME, r#""a\u007F""#, 1),
+    (NAME, r#""é""#, 1),
+    (NAME, "7", 0),
+    (Shape::Text, r#""a b.toml""#, 4),
+    (Shape::Text, r#""""#, 1),
+    (Shape::Word(WordList::SchemeKind), r#""multi""#, 4),
+    (Shape::Word(WordList::SchemeKind), r#""Multi""#, 0),
+    (Shape::Word(WordList::Direction), "true", 0),
+    (Shape::Boolean, "true", 4),
+    (Shape::Boolean, "1", 0),
+    (Shape::Integer(Range::Between(1, 9)), "9", 4),
+    (Shape::Integer(Range::Between(1, 9)), "10", 1),
+    (Shape::Integer(Range::Between(0, 9)), "-1", 1),
+    (Shape::Integer(Range::Between(1, 9)), "1.0", 0),
+    (FACTOR, "1", 4),
+    (FACTOR, r#""0.000001""#, 4),
+    (FACTOR, r#""1.000001""#, 1),
+    (FACTOR, "0", 1),
+    (FACTOR, r#""one""#, 1),
+    (FACTOR, "0.5", 0),
+    (Shape::Names(Limit::Any), r#"["A", "B"]"#, 4),
+    (Shape::Names(Limit::Any), "[]", 4),
+    (Shape::Names(Limit::Any), r#"["A", "B", "A"]"#, 3),
+    (Shape::Names(Limit::Any), r#"["A", ""]"#, 1),
+    (Shape::Names(Limit::Any), r#"["A", 1]"#, 0),
+    (Shape::Names(Limit::Any), r#""A""#, 0),
+    (Shape::Integers, "[0, -3]", 4),
+    (Shape::Integers, r#"["0"]"#, 0),
+    (NUMBERS, r#"["-2", 2]"#, 4),
+    (NUMBERS, r#"["2.000001"]"#, 1),
+    (NUMBERS, "[]", 2),
+    (NUMBERS, "[1, 1, 1]", 2),
+    (NUMBERS, "[1.5]", 0),
+    (POINTS, r#"[["1", 2], []]"#, 4),
+    (POINTS, r#"[["1"], 2]"#, 0),
+    (POINTS, "[[3]]", 1),
+    (PAIRS, r#"[[-1, "2"]]"#, 4),
+    (PAIRS, r#"[[0, "1"], [1, "1"]]"#, 2),
+    (PAIRS, "[[0, 3]]", 1),
+    (PAIRS, r#"[["0", "1"]]"#, 0),
+    (PAIRS, "[[0, 1, 2]]", 0),
+    (PAIRS, "[[0]]", 0),
+    (
+        Shape::Tables(TableKind::Mesh, Limit::Items(1, 2)),
+        "[{}, {}]",
+        4,
+    ),
+    (Shape::Tables(TableKind::Mesh, Limit::Items(1, 2)), "[]", 2),
+    (
+        Shape::Tables(TableKind::Mesh, Limit::Items(1, 2)),
+        "[{}, 0]",
+        0,
+    ),
+    (Shape::Tables(TableKind::Mesh, Limit::Items(1, 2)), "{}", 0),
+    (Shape::Table(TableKind::Line), "{}", 4),
+    (Shape::Table(TableKind::Line), "[{}]", 0),
+];
+
 #[test]
 fn judges_values(rt: HostRuntime) -> Result<(), Fail> {
     let alloc = rt.alloc();
-    let cases = [
-        (NAME, r#""A!~z""#, 4),
-        (NAME, r#""""#, 1),
-        (NAME, r#""a b""#, 1),
-        (NAME, r#""é""#, 1),
-        (NAME, "7", 0),
-        (Shape::Text, r#""a b.toml""#, 4),
-        (Shape::Text, r#""""#, 1),
-        (Shape::Word(WordList::SchemeKind), r#""multi""#, 4),
-        (Shape::Word(WordList::SchemeKind), r#""Multi""#, 0),
-        (Shape::Word(WordList::Direction), "true", 0),
-        (Shape::Boolean, "true", 4),
-        (Shape::Boolean, "1", 0),
-        (Shape::Integer(Range::Between(1, 9)), "9", 4),
-        (Shape::Integer(Range::Between(1, 9)), "10", 1),
-        (Shape::Integer(Range::Between(0, 9)), "-1", 1),
-        (Shape::Integer(Range::Between(1, 9)), "1.0", 0),
-        (FACTOR, "1", 4),
-        (FACTOR, r#""0.000001""#, 4),
-        (FACTOR, r#""1.000001""#, 1),
-        (FACTOR, "0", 1),
-        (FACTOR, r#""one""#, 1),
-        (FACTOR, "0.5", 0),
-        (Shape::Names, r#"["A", "B"]"#, 4),
-        (Shape::Names, "[]", 4),
-        (Shape::Names, r#"["A", "B", "A"]"#, 3),
-        (Shape::Names, r#"["A", ""]"#, 1),
-        (Shape::Names, r#"["A", 1]"#, 0),
-        (Shape::Names, r#""A""#, 0),
-        (Shape::Integers, "[0, -3]", 4),
-        (Shape::Integers, r#"["0"]"#, 0),
-        (NUMBERS, r#"["-2", 2]"#, 4),
-        (NUMBERS, r#"["2.000001"]"#, 1),
-        (NUMBERS, "[]", 2),
-        (NUMBERS, "[1, 1, 1]", 2),
-        (NUMBERS, "[1.5]", 0),
-        (POINTS, r#"[["1", 2], []]"#, 4),
-        (POINTS, r#"[["1"], 2]"#, 0),
-        (POINTS, "[[3]]", 1),
-        (PAIRS, r#"[[-1, "2"]]"#, 4),
-        (PAIRS, r#"[[0, "1"], [1, "1"]]"#, 2),
-        (PAIRS, "[[0, 3]]", 1),
-        (PAIRS, r#"[["0", "1"]]"#, 0),
-        (PAIRS, "[[0, 1, 2]]", 0),
-        (PAIRS, "[[0]]", 0),
-        (
-            Shape::Tables(TableKind::Mesh, Limit::Items(1, 2)),
-            "[{}, {}]",
-            4,
-        ),
-        (Shape::Tables(TableKind::Mesh, Limit::Items(1, 2)), "[]", 2),
-        (
-            Shape::Tables(TableKind::Mesh, Limit::Items(1, 2)),
-            "[{}, 0]",
-            0,
-        ),
-        (Shape::Tables(TableKind::Mesh, Limit::Items(1, 2)), "{}", 0),
-        (Shape::Table(TableKind::Line), "{}", 4),
-        (Shape::Table(TableKind::Line), "[{}]", 0),
-    ];
-    for (shape, text, want) in cases {
-        assert_eq!(rt; passed(alloc, shape, text)?, want, "at {text}");
+    for (shape, text, want) in &VALUES {
+        assert!(rt; passed(alloc, *shape, text)? == *want, "at {text}");
     }
     Ok(())
 }
@@ -141,12 +144,12 @@ fn lists_words_and_keys(rt: HostRuntime) {
     assert!(rt; word_at(WordList::Solver, "springs").is_none());
     assert!(rt; words(WordList::ReadWhen).len() == 2);
     let counts = [
-        (TableKind::Config, 8),
+        (TableKind::Config(Format::One), 8),
         (TableKind::Scheme, 10),
         (TableKind::RowsCase, 10),
         (TableKind::RodCase, 11),
         (TableKind::SpringCase, 13),
-        (TableKind::AnyCase, 16),
+        (TableKind::AnyCase, 17),
     ];
     for (kind, want) in counts {
         assert!(rt; keys(kind).len() == want);
@@ -157,7 +160,7 @@ fn lists_words_and_keys(rt: HostRuntime) {
 fn prints_places(rt: HostRuntime) -> Result<(), Fail> {
     let alloc = rt.alloc();
     let scheme = Place::Config.place_in(TableKind::Scheme, number_at(1));
-    let part = Place::Config.place_in(TableKind::Participant, 10);
+    let part = Place::Config.place_in(TableKind::Participant(Format::One), 10);
     let cases = [
         (Place::Config, "config"),
         (
@@ -172,8 +175,15 @@ fn prints_places(rt: HostRuntime) -> Result<(), Fail> {
         ),
         (part.place_in(TableKind::Write, 2), "participant 10 write 2"),
         (part.place_in(TableKind::Read, 3), "participant 10 read 3"),
-        (part.place_in(TableKind::Map, 4), "participant 10 map 4"),
+        (
+            part.place_in(TableKind::Map(Format::Two), 4),
+            "participant 10 map 4",
+        ),
         (part.place_in(TableKind::Watch, 5), "participant 10 watch 5"),
+        (
+            part.place_in(TableKind::Action, 6),
+            "participant 10 action 6",
+        ),
         (scheme, "scheme 2"),
         (
             scheme.place_in(TableKind::Exchange, 1),

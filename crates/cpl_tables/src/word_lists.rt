@@ -6,9 +6,12 @@ ghost use Rattle.cpl_tables.specs.Words.{words_of};
 /// The keys whose value is one of a few words.
 #[derive(Clone, Copy, Debug, PartialEq, Eq)]
 pub enum WordList {
+    WindowMethod,
     DataKind,
     Direction,
     Constraint,
+    MapMethod,
+    ActionKind,
     SchemeKind,
     MeasureKind,
     AccelerationKind,
@@ -16,11 +19,17 @@ pub enum WordList {
     ReadWhen,
 }
 
+static WINDOW_METHODS: [&str; 2] = ["fixed", "first-participant"];
+
 static DATA_KINDS: [&str; 2] = ["scalar", "vector"];
 
 static DIRECTIONS: [&str; 2] = ["read", "write"];
 
 static CONSTRAINTS: [&str; 2] = ["consistent", "conservative"];
+
+static MAP_METHODS: [&str; 2] = ["nearest-neighbor", "nearest-projection"];
+
+static ACTION_KINDS: [&str; 1] = ["summation"];
 
 static SCHEME_KINDS: [&str; 5] = [
     "serial-explicit",
@@ -34,7 +43,7 @@ static MEASURE_KINDS: [&str; 3] = ["absolute", "relative", "residual-relative"];
 
 static ACCELERATION_KINDS: [&str; 2] = ["constant", "aitken"];
 
-static SOLVERS: [&str; 3] = ["rows", "rod", "spring"];
+static SOLVERS: [&str; 4] = ["rows", "rod", "spring", "recorded"];
 
 static READ_TIMES: [&str; 2] = ["end", "start"];
 
@@ -43,9 +52,12 @@ pub fn words(list: WordList) -> &'static [&'static str]
     ensures { map (λ w. w.now) result.now ≡ words_of list }
 {
     match list {
+        WordList::WindowMethod => &WINDOW_METHODS,
         WordList::DataKind => &DATA_KINDS,
         WordList::Direction => &DIRECTIONS,
         WordList::Constraint => &CONSTRAINTS,
+        WordList::MapMethod => &MAP_METHODS,
+        WordList::ActionKind => &ACTION_KINDS,
         WordList::SchemeKind => &SCHEME_KINDS,
         WordList::MeasureKind => &MEASURE_KINDS,
         WordList::AccelerationKind => &ACCELERATION_KINDS,
@@ -62,6 +74,7 @@ pub fn word_at(list: WordList, text: &str) -> Option<usize>
     words(list).iter().position(|word| text == *word)
 }
 
+/// Whether a text is a word of the list.
 pub fn is_word(list: WordList, text: &str) -> bool
     ensures { result ≡ is_word list text.now }
 {

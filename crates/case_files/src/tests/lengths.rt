@@ -44,6 +44,18 @@ fn lists(rt: HostRuntime) -> Result<(), Fail> {
     Ok(())
 }
 
+#[test]
+fn records(rt: HostRuntime) -> Result<(), Fail> {
+    let alloc = rt.alloc();
+    let before = "solver = \"recorded\"\nstep = 1\nmesh = []\nrecord = [";
+    let cases = [(10_000, None), (10_001, refused(7))];
+    for (count, wanted) in cases {
+        let text = text_with(alloc, before, "{dt=1,writes=[]},", count, "]\n")?;
+        assert_eq!(rt; refusal_of(alloc, text.as_bytes())?, wanted, "of {count}");
+    }
+    Ok(())
+}
+
 /// The size limit, less what stands before the comment and its last line end.
 const FILL: u32 = 1_048_576 - 38;
 

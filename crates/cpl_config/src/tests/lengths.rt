@@ -1,131 +1,69 @@
-use super::{BASE, refusal_of};
-use cpl_rules::Refusal;
-use cpl_tables::Place;
+use super::{BASE, told};
 use std::alloc::{AllocError, Global};
 use std::test::Fail;
 
-/// Text with so many times one item in it, and so many more of it further on.
-fn text_with(
-    alloc: Global,
-    item: &str,
-    parts: [&str; 3],
-    counts: (u32, u32),
-) -> Result<String, AllocError> {
-    let mut text = String::from_str(alloc, "format = 1\nwindow = 1\nmesh = []\n")?;
-    text.push_str(parts[0])?;
-    for _ in 0..counts.0 {
-        text.push_str(item)?;
-    }
-    text.push_str(parts[1])?;
-    for _ in 0..counts.1 {
-        text.push_str(item)?;
-    }
-    text.push_str(parts[2])?;
-    Ok(text)
+/// What is told of a text of format 2 with so many times one item, and so many more of it further
+/// on; then the item, and what stands before, between and after. `^` ends a line, `~` is nothing.
+const LENGTHS: &str =
+    r#"accepted | 0 | 0 | { name = "U", kind = "scalar" }, | data = [ | ]^scheme = [{ kind = "multi" }]^participant = [{ name = "A", case = "a", provides = [] }]^ | ~
+8 data 2 | 64 | 0 | { name = "U", kind = "scalar" }, | data = [ | ]^scheme = [{ kind = "multi" }]^participant = [{ name = "A", case = "a", provides = [] }]^ | ~
+7 config | 65 | 0 | { name = "U", kind = "scalar" }, | data = [ | ]^scheme = [{ kind = "multi" }]^participant = [{ name = "A", case = "a", provides = [] }]^ | ~
+7 config | 0 | 0 | { name = "A", case = "a", provides = [] }, | data = []^participant = [ | ]^scheme = [{ kind = "multi" }]^ | ~
+8 participant 2 | 64 | 0 | { name = "A", case = "a", provides = [] }, | data = []^participant = [ | ]^scheme = [{ kind = "multi" }]^ | ~
+7 config | 65 | 0 | { name = "A", case = "a", provides = [] }, | data = []^participant = [ | ]^scheme = [{ kind = "multi" }]^ | ~
+7 config | 0 | 0 | { kind = "multi" }, | data = []^scheme = [ | ]^participant = [{ name = "A", case = "a", provides = [] }]^ | ~
+accepted | 64 | 0 | { kind = "multi" }, | data = []^scheme = [ | ]^participant = [{ name = "A", case = "a", provides = [] }]^ | ~
+7 config | 65 | 0 | { kind = "multi" }, | data = []^scheme = [ | ]^participant = [{ name = "A", case = "a", provides = [] }]^ | ~
+accepted | 64 | 0 | { mesh = "M", from = "B" }, | data = []^scheme = [{ kind = "multi" }]^participant = [{ name = "A", case = "a", provides = [], receives = [ | ] }]^ | ~
+7 participant 1 | 65 | 0 | { mesh = "M", from = "B" }, | data = []^scheme = [{ kind = "multi" }]^participant = [{ name = "A", case = "a", provides = [], receives = [ | ] }]^ | ~
+accepted | 16 | 0 | { kind = "absolute", data = "U", limit = 1 }, | data = []^scheme = [{ kind = "multi", measure = [ | ] }]^participant = [{ name = "A", case = "a", provides = [] }]^ | ~
+7 scheme 1 | 17 | 0 | { kind = "absolute", data = "U", limit = 1 }, | data = []^scheme = [{ kind = "multi", measure = [ | ] }]^participant = [{ name = "A", case = "a", provides = [] }]^ | ~
+6 participant 1 | 17 | 0 | { kind = "absolute", data = "U", limit = 1 }, | data = []^scheme = [{ kind = "multi", measure = [ | ] }]^participant = [{ name = "A B", case = "a", provides = [] }]^ | ~
+accepted | 64 | 0 | { kind = "summation", mesh = "M", sources = [], target = "U" }, | data = []^scheme = [{ kind = "multi" }]^participant = [{ name = "A", case = "a", provides = [], action = [ | ] }]^ | ~
+7 participant 1 | 65 | 0 | { kind = "summation", mesh = "M", sources = [], target = "U" }, | data = []^scheme = [{ kind = "multi" }]^participant = [{ name = "A", case = "a", provides = [], action = [ | ] }]^ | ~
+accepted | 1 | 0 | "U", | data = []^scheme = [{ kind = "multi" }]^participant = [{ name = "A", case = "a", provides = [], action = [{ kind = "summation", mesh = "M", target = "V", sources = [ | ] }] }]^ | ~
+8 participant 1 action 1 | 64 | 0 | "U", | data = []^scheme = [{ kind = "multi" }]^participant = [{ name = "A", case = "a", provides = [], action = [{ kind = "summation", mesh = "M", target = "V", sources = [ | ] }] }]^ | ~
+7 participant 1 action 1 | 65 | 0 | "U", | data = []^scheme = [{ kind = "multi" }]^participant = [{ name = "A", case = "a", provides = [], action = [{ kind = "summation", mesh = "M", target = "V", sources = [ | ] }] }]^ | ~
+6 participant 1 action 1 | 65 | 0 | "U", | data = []^scheme = [{ kind = "multi" }]^participant = [{ name = "A", case = "a", provides = [], action = [{ kind = "summation", mesh = "M", target = "V", sources = ["", | ] }] }]^ | ~
+accepted | 200 | 56 | { data = "U", mesh = "M", from = "A", to = "B" }, | data = []^participant = [{ name = "A", case = "a", provides = [] }]^scheme = [{ kind = "multi", exchange = [ | ] }, { kind = "multi", exchange = [ | ] }]^
+7 scheme 2 exchange 57 | 200 | 57 | { data = "U", mesh = "M", from = "A", to = "B" }, | data = []^participant = [{ name = "A", case = "a", provides = [] }]^scheme = [{ kind = "multi", exchange = [ | ] }, { kind = "multi", exchange = [ | ] }]^
+7 scheme 1 exchange 257 | 258 | 1 | { data = "U", mesh = "M", from = "A", to = "B" }, | data = []^participant = [{ name = "A", case = "a", provides = [] }]^scheme = [{ kind = "multi", exchange = [ | ] }, { kind = "multi", exchange = [ | ] }]^
+accepted | 1 | 0 | { name = "P", mesh = "M", at = [0, 0] }, | data = []^scheme = [{ kind = "multi" }]^participant = [{ name = "A", case = "a", provides = [], watch = [ | ] }, { name = "B", case = "b", provides = [], watch = [ | ] }]^
+8 participant 1 watch 2 | 40 | 24 | { name = "P", mesh = "M", at = [0, 0] }, | data = []^scheme = [{ kind = "multi" }]^participant = [{ name = "A", case = "a", provides = [], watch = [ | ] }, { name = "B", case = "b", provides = [], watch = [ | ] }]^
+7 participant 2 watch 25 | 40 | 25 | { name = "P", mesh = "M", at = [0, 0] }, | data = []^scheme = [{ kind = "multi" }]^participant = [{ name = "A", case = "a", provides = [], watch = [ | ] }, { name = "B", case = "b", provides = [], watch = [ | ] }]^
+8 participant 2 watch 1 | 1 | 1 | { name = "P", mesh = "M", at = [0, 0] }, | data = []^scheme = [{ kind = "multi" }]^participant = [{ name = "A", case = "a", provides = [], watch = [ | ] }, { name = "B", case = "b", provides = [], watch = [ | ] }]^"#;
+
+/// A part of a line as text.
+fn text_of(alloc: Global, part: Option<&str>) -> Result<String, Fail> {
+    let part = part.ok_or("a part is missing")?;
+    let lines = part.replace(alloc, "^", "\n")?;
+    Ok(lines.as_str().replace(alloc, "~", "")?)
+}
+
+/// The item so many times.
+fn times(alloc: Global, item: &str, count: Option<&str>) -> Result<String, Fail> {
+    let count: u16 = count.ok_or("a count is missing")?.parse()?;
+    Ok(item.repeat(alloc, usize::from(count))?)
 }
 
 #[test]
-fn lists_of_tables(rt: HostRuntime) -> Result<(), Fail> {
+fn lengths_of_lists(rt: HostRuntime) -> Result<(), Fail> {
     let alloc = rt.alloc();
-    let datum = "{ name = \"U\", kind = \"scalar\" },";
-    let data = [
-        "data = [",
-        "]\nscheme = [{ kind = \"multi\" }]\n",
-        "participant = [{ name = \"A\", case = \"a\", provides = [] }]\n",
-    ];
-    let part = "{ name = \"A\", case = \"a\", provides = [] },";
-    let parts = [
-        "data = []\nparticipant = [",
-        "]\n",
-        "scheme = [{ kind = \"multi\" }]\n",
-    ];
-    let scheme = "{ kind = \"multi\" },";
-    let schemes = [
-        "data = []\nscheme = [",
-        "]\n",
-        "participant = [{ name = \"A\", case = \"a\", provides = [] }]\n",
-    ];
-    let received = "{ mesh = \"M\", from = \"B\" },";
-    let receives = [
-        "data = []\nparticipant = [{ name = \"A\", case = \"a\", provides = [], receives = [",
-        "] }]\n",
-        "scheme = [{ kind = \"multi\" }]\n",
-    ];
-    let measure = "{ kind = \"absolute\", data = \"U\", limit = 1 },";
-    let measures = [
-        "data = []\nscheme = [{ kind = \"multi\", measure = [",
-        "] }]\n",
-        "participant = [{ name = \"A\", case = \"a\", provides = [] }]\n",
-    ];
-    let cases = [
-        (datum, data, 0, None),
-        (datum, data, 64, Some((8, Place::DataTable(2)))),
-        (datum, data, 65, Some((7, Place::Config))),
-        (part, parts, 0, Some((7, Place::Config))),
-        (part, parts, 64, Some((8, Place::Participant(2)))),
-        (part, parts, 65, Some((7, Place::Config))),
-        (scheme, schemes, 0, Some((7, Place::Config))),
-        (scheme, schemes, 64, None),
-        (scheme, schemes, 65, Some((7, Place::Config))),
-        (received, receives, 64, None),
-        (received, receives, 65, Some((7, Place::Participant(1)))),
-        (measure, measures, 16, None),
-        (measure, measures, 17, Some((7, Place::Scheme(1)))),
-    ];
-    for (item, around, count, wanted) in cases {
-        let text = text_with(alloc, item, around, (count, 0))?;
-        let wanted = wanted.map(|(rule, place)| Refusal { rule, place });
-        assert_eq!(rt;
-            refusal_of(alloc, text.as_bytes())?,
-            wanted,
-            "of {count}: {item}"
-        );
-    }
-    Ok(())
-}
-
-#[test]
-fn tables_of_the_whole_file(rt: HostRuntime) -> Result<(), Fail> {
-    let alloc = rt.alloc();
-    let exchange = "{ data = \"U\", mesh = \"M\", from = \"A\", to = \"B\" },";
-    let exchanges = [
-        "data = []\nparticipant = [{ name = \"A\", case = \"a\", provides = [] }]\nscheme = [{ kind = \"multi\", exchange = [",
-        "] }, { kind = \"multi\", exchange = [",
-        "] }]\n",
-    ];
-    let watch = "{ name = \"P\", mesh = \"M\", at = [0, 0] },";
-    let watches = [
-        "data = []\nscheme = [{ kind = \"multi\" }]\nparticipant = [{ name = \"A\", case = \"a\", provides = [], watch = [",
-        "] }, { name = \"B\", case = \"b\", provides = [], watch = [",
-        "] }]\n",
-    ];
-    let cases = [
-        (exchange, exchanges, (200, 56), None),
-        (
-            exchange,
-            exchanges,
-            (200, 57),
-            Some((7, Place::Exchange(2, 57))),
-        ),
-        (
-            exchange,
-            exchanges,
-            (258, 1),
-            Some((7, Place::Exchange(1, 257))),
-        ),
-        (watch, watches, (1, 0), None),
-        (watch, watches, (40, 24), Some((8, Place::Watch(1, 2)))),
-        (watch, watches, (40, 25), Some((7, Place::Watch(2, 25)))),
-        (watch, watches, (1, 1), Some((8, Place::Watch(2, 1)))),
-    ];
-    for (item, around, counts, wanted) in cases {
-        let text = text_with(alloc, item, around, counts)?;
-        let wanted = wanted.map(|(rule, place)| Refusal { rule, place });
-        assert_eq!(rt;
-            refusal_of(alloc, text.as_bytes())?,
-            wanted,
-            "of {counts:?}: {item}"
-        );
+    for line in LENGTHS.lines() {
+        let mut parts = line.split(" | ");
+        let wanted = parts.next().ok_or("no line")?;
+        let (first, second) = (parts.next(), parts.next());
+        let item = text_of(alloc, parts.next())?;
+        let before = text_of(alloc, parts.next())?;
+        let between = text_of(alloc, parts.next())?;
+        let after = text_of(alloc, parts.next())?;
+        let one = times(alloc, item.as_str(), first)?;
+        let other = times(alloc, item.as_str(), second)?;
+        let text = format!(in alloc;
+            "format = 2\nwindow = 1\nmesh = []\n{before}{one}{between}{other}{after}"
+        )?;
+        let answer = told(alloc, text.as_bytes())?;
+        assert!(rt; answer.as_slice() == wanted.as_bytes(), "{line}");
     }
     Ok(())
 }
@@ -143,19 +81,11 @@ fn padded(alloc: Global, size: usize) -> Result<String, AllocError> {
 fn a_file_of_a_mebibyte(rt: HostRuntime) -> Result<(), Fail> {
     let alloc = rt.alloc();
     let full = padded(alloc, 1_048_576)?;
-    assert_eq!(rt; refusal_of(alloc, full.as_bytes())?, None);
+    assert!(rt; told(alloc, full.as_bytes())?.as_slice() == "accepted".as_bytes());
     let long = padded(alloc, 1_048_577)?;
-    let too_long = Refusal {
-        rule: 1,
-        place: Place::Config,
-    };
-    assert_eq!(rt; refusal_of(alloc, long.as_bytes())?, Some(too_long));
+    assert!(rt; told(alloc, long.as_bytes())?.as_slice() == "1 config".as_bytes());
     let bytes = vec![in alloc; 255; 1_048_577]?;
-    assert_eq!(rt; refusal_of(alloc, &bytes)?, Some(too_long));
-    let unread = Refusal {
-        rule: 2,
-        place: Place::Config,
-    };
-    assert_eq!(rt; refusal_of(alloc, &bytes[1..])?, Some(unread));
+    assert!(rt; told(alloc, &bytes)?.as_slice() == "1 config".as_bytes());
+    assert!(rt; told(alloc, &bytes[1..])?.as_slice() == "2 config".as_bytes());
     Ok(())
 }

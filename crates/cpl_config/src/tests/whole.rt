@@ -1,10 +1,11 @@
 use super::BASE;
-use crate::{Config, KindWord, read_config};
+use crate::{Config, KindWord, WindowWord, read_config};
 use std::alloc::{AllocError, Global};
 use std::fmt::Debug;
 use std::test::Fail;
 
-const WHOLE: &str = r#"format = 1
+const WHOLE: &str = r#"format = 2
+window-method = "first-participant"
 window = 10
 max-time = 25
 
@@ -31,9 +32,10 @@ write = [{ data = "U", mesh = "MA" }]
 read = [{ data = "F", mesh = "MA" }]
 map = [
   { direction = "read", from = "MB", to = "MA", constraint = "consistent" },
-  { direction = "write", from = "MA", to = "MC", constraint = "conservative" },
+  { direction = "write", from = "MA", to = "MC", constraint = "conservative", method = "nearest-projection" },
 ]
 watch = [{ name = "P", mesh = "MA", at = ["-0.5", 2, "1.25"] }]
+action = [{ kind = "summation", mesh = "MA", sources = ["U", "F"], target = "S" }]
 
 [[participant]]
 name = "B"
@@ -92,7 +94,9 @@ fn the_top_table_data_and_meshes(rt: HostRuntime) -> Result<(), Fail> {
     let alloc = rt.alloc();
     let whole = read_config(alloc, WHOLE.as_bytes())?;
     let base = read_config(alloc, BASE.as_bytes())?;
-    assert!(rt; numbers(&whole) == [Some(1), Some(10), Some(25), None]);
+    assert!(rt; numbers(&whole) == [Some(2), Some(10), Some(25), None]);
+    assert!(rt; whole.window_method == WindowWord::FirstParticipant);
+    assert!(rt; base.window_method == WindowWord::Fixed);
     assert!(rt; numbers(&base) == [Some(1), Some(10), None, Some(3)]);
     assert_eq!(rt; shown(alloc, &whole.data_list)?.as_str(), DATA);
     assert_eq!(rt; shown(alloc, &whole.mesh)?.as_str(), MESHES);
@@ -100,10 +104,10 @@ fn the_top_table_data_and_meshes(rt: HostRuntime) -> Result<(), Fail> {
 }
 
 const FIRST_PARTICIPANT: &str =
-    r#"PartTable { name: "A", case: "a.toml", provides: ["MA"], receives: [ReceivesEntry { mesh: "MB", from: "B" }], write: [DataEntry { data_name: "U", mesh: "MA" }], read: [DataEntry { data_name: "F", mesh: "MA" }], map: [MapEntry { direction: Read, from: "MB", to: "MA", constraint: Consistent }, MapEntry { direction: Write, from: "MA", to: "MC", constraint: Conservative }], watch: [WatchEntry { name: "P", mesh: "MA", at: [-500000, 2000000, 1250000] }] }"#;
+    r#"PartTable { name: "A", case: "a.toml", provides: ["MA"], receives: [ReceivesEntry { mesh: "MB", from: "B" }], write: [DataEntry { data_name: "U", mesh: "MA" }], read: [DataEntry { data_name: "F", mesh: "MA" }], map: [MapEntry { direction: Read, from: "MB", to: "MA", constraint: Consistent, method: NearestNeighbor }, MapEntry { direction: Write, from: "MA", to: "MC", constraint: Conservative, method: NearestProjection }], watch: [WatchEntry { name: "P", mesh: "MA", at: [-500000, 2000000, 1250000] }], action: [ActionEntry { kind: Summation, mesh: "MA", sources: ["U", "F"], target: "S" }] }"#;
 
 const SECOND_PARTICIPANT: &str =
-    r#"PartTable { name: "B", case: "cases/b.toml", provides: [], receives: [], write: [], read: [], map: [], watch: [] }"#;
+    r#"PartTable { name: "B", case: "cases/b.toml", provides: [], receives: [], write: [], read: [], map: [], watch: [], action: [] }"#;
 
 #[test]
 fn participants(rt: HostRuntime) -> Result<(), Fail> {

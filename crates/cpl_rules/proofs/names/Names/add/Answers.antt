@@ -16,7 +16,7 @@ returns-in_ok-insert-in-Mesh-clause-known c =
 pub returns-in_ok-insert-in-Participant-clause-known : goal.returns-in_ok-insert-in-Participant-clause-known
 returns-in_ok-insert-in-Participant-clause-known c =
     let name = string_bytes c.args.name in
-    rw c.in-Participant.is (knows-Participant c.args.self.now c.insert-in-Participant.new.self name (btree_set_updates_text name c.args.self.now.of_participants c.insert-in-Participant.new.self true c.in_ok-insert-in-Participant.ensures.updates))
+    rw c.in-Participant.is (knows-Participant _ c.args.self.now c.insert-in-Participant.new.self name (btree_set_updates_text name c.args.self.now.of_participants c.insert-in-Participant.new.self true c.in_ok-insert-in-Participant.ensures.updates))
 
 pub returns-in_ok-insert-in-Watch-clause-known : goal.returns-in_ok-insert-in-Watch-clause-known
 returns-in_ok-insert-in-Watch-clause-known c =
