@@ -24,6 +24,8 @@ use Rattle.config_laws.specs.FitSchemes.{IsFitExchange, IsFitMeasure, IsFitAccel
 use Rattle.config_laws.specs.FitConfig.{FitsTogether}
 use Rattle.config_laws.proofs.EntriesOf.{entries_with}
 use Rattle.config_laws.proofs.MeshRefuted.{Fine, whole_fine, data_fine, mesh_fine, participant_fine, received_fine, written_fine, read_fine, map_fine, watch_fine}
+use Rattle.config_laws.proofs.ActionFacts.{action_fine}
+use Rattle.config_laws.proofs.WindowFacts.{windows_fine}
 use Rattle.config_laws.proofs.SchemeRefuted.{scheme_fine, exchange_fine, measure_fine, acceleration_fine}
 use Rattle.config_laws.proofs.Splits.{at_split, all_left, all_right}
 use Rattle.config_laws.proofs.Truths.{both, neither, apart_text, text_apart}
@@ -44,10 +46,11 @@ all_fine config fits = entries_with (Fine config) config (record {
     writes = All-weaker (IsOnOwnMesh config (get_or config.participant k d)) (λ (entry : DataEntry). Fine config (written (get_or config.participant k d) entry)) (written_fine config (get_or config.participant k d)) (get_or config.participant k d).write (fits.written k d within);
     reads = λ before entry after is. read_fine config (get_or config.participant k d) before entry (fits.read k d within before entry after is);
     maps = λ before entry after is. map_fine config (get_or config.participant k d) before entry (fits.mapped k d within before entry after is);
+    acts = λ before entry after is. action_fine config (get_or config.participant k d) before entry (fits.acted k d within before entry after is);
     watches = All-weaker (IsFitWatch config (get_or config.participant k d)) (λ (entry : WatchEntry). Fine config (watched (get_or config.participant k d) entry)) (watch_fine config (get_or config.participant k d)) (get_or config.participant k d).watch (fits.watched k d within);
   };
   schemes = λ before table after is. record {
-    own = scheme_fine config before table (fits.schemes before table after is);
+    own = scheme_fine config before table (fits.schemes before table after is) (windows_fine config fits.windows before table after is);
     exchanges = All-weaker (IsFitExchange config table) (λ (entry : ExchangeEntry). Fine config (exchanged table entry)) (exchange_fine config table) table.exchange
         (at_split (λ (one : SchemeTable). All (IsFitExchange config one) one.exchange) config.scheme before table after is fits.exchanged);
     measures = All-weaker (IsFitMeasure config table) (λ (entry : MeasureEntry). Fine config (measured table entry)) (measure_fine config table) table.measure

@@ -13,7 +13,7 @@ use Rattle.cpl_config.specs.declared.config.SchemeTable.{SchemeTable}
 use Rattle.cpl_config.specs.declared.config.ExchangeEntry.{ExchangeEntry}
 use Rattle.cpl_config.specs.declared.config.MeasureEntry.{MeasureEntry}
 use Rattle.cpl_config.specs.declared.config.AccelEntry.{AccelEntry}
-use Rattle.mesh_rules.specs.Entries.{Held, whole, datum, mesh, participant, received, written, read, mapped, watched, scheme, exchanged, measured, accelerated, Entry, at, each, received_entries, written_entries, read_entries, mapped_entries, watched_entries, entries_of_participant, exchanged_entries, measured_entries, accelerated_entries, entries_of_scheme, data_entries, mesh_entries, participant_entries, scheme_entries, entries_of}
+use Rattle.mesh_rules.specs.Entries.{Held, whole, datum, mesh, participant, received, written, read, mapped, watched, acted, scheme, exchanged, measured, accelerated, Entry, at, each, received_entries, written_entries, read_entries, mapped_entries, watched_entries, acted_entries, entries_of_participant, exchanged_entries, measured_entries, accelerated_entries, entries_of_scheme, data_entries, mesh_entries, participant_entries, scheme_entries, entries_of}
 use Rattle.config_laws.specs.Placed.{EachAfter}
 use Rattle.config_laws.proofs.Splits.{all_left, all_right, made, make_all, each_weaker, each_all, at_split}
 
@@ -24,6 +24,7 @@ pub record InParticipant (R : Held → Type 0) (table : PartTable) : Type 0 wher
   pub reads : EachAfter (λ before entry. R (read table before entry)) table.read
   pub maps : EachAfter (λ before entry. R (mapped table before entry)) table.map
   pub watches : All (λ entry. R (watched table entry)) table.watch
+  pub acts : EachAfter (λ before entry. R (acted table before entry)) table.action
 
 pub record InScheme (R : Held → Type 0) (earlier : List SchemeTable) (table : SchemeTable) : Type 0 where
   pub own : R (scheme earlier table)
@@ -61,7 +62,9 @@ in_participant R p table all =
     let es2 : List Entry = es1 ++ written_entries p table in
     let es3 : List Entry = es2 ++ read_entries p table in
     let es4 : List Entry = es3 ++ mapped_entries p table in
-    let all4 : All Q es4 = all_left Q es4 (watched_entries p table) all in
+    let es5 : List Entry = es4 ++ watched_entries p table in
+    let all5 : All Q es5 = all_left Q es5 (acted_entries p table) all in
+    let all4 : All Q es4 = all_left Q es4 (watched_entries p table) all5 in
     let all3 : All Q es3 = all_left Q es3 (mapped_entries p table) all4 in
     let all2 : All Q es2 = all_left Q es2 (read_entries p table) all3 in
     let all1 : All Q es1 = all_left Q es1 (written_entries p table) all2 in
@@ -73,7 +76,8 @@ in_participant R p table all =
       reads = each_in R (λ n. P.Read p n) (read table) table.read (all_right Q es2 (read_entries p table) all3);
       maps = each_in R (λ n. P.Map p n) (mapped table) table.map (all_right Q es3 (mapped_entries p table) all4);
       watches = each_all (λ (entry : WatchEntry). R (watched table entry)) table.watch
-          (each_in R (λ n. P.Watch p n) (λ before entry. watched table entry) table.watch (all_right Q es4 (watched_entries p table) all));
+          (each_in R (λ n. P.Watch p n) (λ before entry. watched table entry) table.watch (all_right Q es4 (watched_entries p table) all5));
+      acts = each_in R (λ n. P.Action p n) (acted table) table.action (all_right Q es5 (acted_entries p table) all);
     }
 
 in_acceleration : (R : Held → Type 0) (s : ℕ) (table : SchemeTable) (acceleration : Option AccelEntry) → All (Holds R) (accelerated_entries s table acceleration)
@@ -154,7 +158,9 @@ held_participant R p table inside =
     let all2 : All Q es2 = All-append Q es1 (written_entries p table) all1 (held_all R (λ n. P.Write p n) (written table) table.write inside.writes) in
     let all3 : All Q es3 = All-append Q es2 (read_entries p table) all2 (held_each R (λ n. P.Read p n) (read table) table.read inside.reads) in
     let all4 : All Q es4 = All-append Q es3 (mapped_entries p table) all3 (held_each R (λ n. P.Map p n) (mapped table) table.map inside.maps) in
-    All-append Q es4 (watched_entries p table) all4 (held_all R (λ n. P.Watch p n) (watched table) table.watch inside.watches)
+    let es5 : List Entry = es4 ++ watched_entries p table in
+    let all5 : All Q es5 = All-append Q es4 (watched_entries p table) all4 (held_all R (λ n. P.Watch p n) (watched table) table.watch inside.watches) in
+    All-append Q es5 (acted_entries p table) all5 (held_each R (λ n. P.Action p n) (acted table) table.action inside.acts)
 
 held_acceleration : (R : Held → Type 0) (s : ℕ) (table : SchemeTable) (acceleration : Option AccelEntry) → IfSome acceleration (λ entry. R (accelerated table entry))
     → All (Holds R) (accelerated_entries s table acceleration)

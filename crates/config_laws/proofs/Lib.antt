@@ -20,5 +20,7 @@ pub mod RoundsUp
 pub mod NoCycles
 pub mod Refuted
 pub mod MeshRefuted
+pub mod ActionFacts
+pub mod WindowFacts
 pub mod SchemeRefuted
 pub mod AllFits

@@ -1,5 +1,5 @@
 -- Meshes and participants of which no entry breaks a rule fit.
-use Rattle.std.proofs.Common.{◌≡◌, ℕ, ◌*◌, ◌^◌, Bool, false, not, ◌||◌, inl, inr, length, List, Option, Some, None, ℤ, refl}
+use Rattle.std.proofs.Common.{◌≡◌, ℕ, ◌*◌, ◌^◌, Bool, false, not, ◌||◌, inl, inr, length, List, Option, Some, None, ◌⊎◌, ℤ, refl}
 use Rattle.std.specs.Prelude.{count_by, unsigned_abs, is_some, ◌==◌, nat_lt}
 use Rattle.std.specs.List.{list_any}
 use Rattle.std.specs.Option.{option_map_or}
@@ -7,6 +7,8 @@ use Rattle.std.specs.Bool.{beq}
 use Rattle.std.specs.Str.{bytes_eq}
 use Rattle.std.proofs.lemmas.Bool.{eqb-true, ltb-false}
 use Rattle.std.proofs.lemmas.Bool.Decides.{Decides-int_eq}
+use Rattle.cpl_config.specs.declared.kind_words.WindowWord.{WindowWord}
+use Rattle.cpl_config.specs.declared.kind_words.WindowWord.TheVariants.{Fixed, FirstParticipant}
 use Rattle.cpl_config.specs.declared.config.Config.{Config}
 use Rattle.cpl_config.specs.declared.config.MeshTable.{MeshTable}
 use Rattle.cpl_config.specs.declared.config.PartTable.{PartTable}
@@ -18,26 +20,32 @@ use Rattle.cpl_config.specs.declared.config.ExchangeEntry.{ExchangeEntry}
 use Rattle.cpl_config.specs.SoundConfig.{all_exchanges}
 use Rattle.mesh_rules.specs.Entries.{whole, mesh, participant, received, written, read, mapped, watched}
 use Rattle.mesh_rules.specs.Named.{is_data, is_mesh, is_participant, participant_called, carries, dimensions_of, provides, holds_of}
-use Rattle.mesh_rules.specs.MeshRules.{is_too_far, has_right_ends, have_same_dimensions, has_dimensions_of, goes, some_goes}
+use Rattle.mesh_rules.specs.MeshRules.{lacks_end, is_too_far, has_right_ends, have_same_dimensions, has_dimensions_of, goes, some_goes}
 use Rattle.config_rules.specs.Members.{is_member}
 use Rattle.config_rules.specs.SchemeRules.{feeds}
 use Rattle.config_rules.specs.declared.rules.ConfigRule.TheVariants.{Undeclared, NoEnd, NoProvider, WronglyReceived, OffMesh, WronglyMapped, Unfed, NoScheme}
-use Rattle.config_laws.specs.FitMeshes.{HasEnd, IsFitMesh, IsFitParticipant, IsFitReceived, IsOnOwnMesh, IsFitRead, IsFitMap, IsFitWatch}
+use Rattle.config_laws.specs.FitMeshes.{EndsInTime, EndsInWindows, EndsBy, HasEnd, IsFitMesh, IsFitParticipant, IsFitReceived, IsOnOwnMesh, IsFitRead, IsFitMap, IsFitWatch}
 use Rattle.config_laws.proofs.KeptRules.{Kept}
-use Rattle.config_laws.proofs.Truths.{neither, holds, none_passes, none_lacks, none_named, holds_some, only_one}
+use Rattle.config_laws.proofs.Truths.{neither, holds, some_there, none_passes, none_lacks, none_named, holds_some, only_one}
 
 end_told : (config : Config) (time windows : Option ℤ) → config.max_time ≡ time → config.max_windows ≡ windows → beq (is_some time) (is_some windows) ≡ false
-    → option_map_or (λ t. nat_lt (10 ^ 6 * unsigned_abs config.window) (unsigned_abs t)) time false ≡ false → HasEnd config
+    → option_map_or (λ t. nat_lt (10 ^ 6 * unsigned_abs config.window) (unsigned_abs t)) time false ≡ false → EndsInTime config ⊎ EndsInWindows config
 end_told config None None is_time is_windows one near = cc
 end_told config None (Some windows) is_time is_windows one near = inr (record { windows = windows; told = is_windows; alone = is_time })
 end_told config (Some time) None is_time is_windows one near =
     inl (record { time = time; told = is_time; alone = is_windows; near = ltb-false (10 ^ 6 * unsigned_abs config.window) (unsigned_abs time) near })
 end_told config (Some time) (Some windows) is_time is_windows one near = cc
 
-pub fit_end : (config : Config) → Kept config whole → HasEnd config
-fit_end config kept =
-    let parts = neither (beq (is_some config.max_time) (is_some config.max_windows)) (is_too_far config) (kept NoEnd).2 in
+end_by : (config : Config) (method : WindowWord) → lacks_end config method ≡ false → EndsBy config method
+end_by config Fixed rule =
+    let parts = neither (beq (is_some config.max_time) (is_some config.max_windows)) (is_too_far config) rule in
     end_told config config.max_time config.max_windows refl refl parts.0 parts.1
+end_by config FirstParticipant rule =
+    let windows = some_there config.max_windows (holds (is_some config.max_windows) rule) in
+    record { windows = windows.0; told = windows.1 }
+
+pub fit_end : (config : Config) → Kept config whole → HasEnd config
+fit_end config kept = end_by config config.window_method (kept NoEnd).2
 
 pub fit_mesh : (config : Config) (table : MeshTable) → Kept config (mesh table) → IsFitMesh config table
 fit_mesh config table kept =

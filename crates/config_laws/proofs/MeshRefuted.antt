@@ -9,6 +9,8 @@ use Rattle.std.proofs.lemmas.Bool.{eq-eqb, le-ltb}
 use Rattle.std.proofs.lemmas.Bool.Decides.{Decides-int_eq}
 use Rattle.std.proofs.lemmas.List.Folds.{list_any_none}
 use Rattle.cpl_tables.specs.declared.places.Place.{Place}
+use Rattle.cpl_config.specs.declared.kind_words.WindowWord.{WindowWord}
+use Rattle.cpl_config.specs.declared.kind_words.WindowWord.TheVariants.{Fixed, FirstParticipant}
 use Rattle.cpl_config.specs.declared.config.Config.{Config}
 use Rattle.cpl_config.specs.declared.config.DataTable.{DataTable}
 use Rattle.cpl_config.specs.declared.config.MeshTable.{MeshTable}
@@ -20,13 +22,13 @@ use Rattle.cpl_config.specs.declared.config.WatchEntry.{WatchEntry}
 use Rattle.cpl_config.specs.SoundConfig.{all_exchanges}
 use Rattle.mesh_rules.specs.Entries.{Held, whole, datum, mesh, participant, received, written, read, mapped, watched, Entry}
 use Rattle.mesh_rules.specs.Named.{is_data, is_mesh, is_participant, participant_called, carries, dimensions_of, provides, holds_of}
-use Rattle.mesh_rules.specs.MeshRules.{is_too_far, has_right_ends, have_same_dimensions, has_dimensions_of, goes, some_goes, has_no_end}
+use Rattle.mesh_rules.specs.MeshRules.{lacks_end, is_too_far, has_right_ends, have_same_dimensions, has_dimensions_of, goes, some_goes}
 use Rattle.config_rules.specs.Members.{is_member}
 use Rattle.config_rules.specs.SchemeRules.{feeds}
 use Rattle.config_rules.specs.declared.rules.ConfigRule.{ConfigRule}
 use Rattle.config_rules.specs.declared.rules.ConfigRule.TheVariants.{Undeclared, NoEnd, NoProvider, WronglyReceived, OffMesh, WrittenTwice, WronglyMapped, Unfed, NoScheme}
 use Rattle.config_rules.specs.ConfigRules.{breaks}
-use Rattle.config_laws.specs.FitMeshes.{HasEnd, IsFitMesh, IsFitParticipant, IsFitReceived, IsOnOwnMesh, IsFitRead, IsFitMap, IsFitWatch}
+use Rattle.config_laws.specs.FitMeshes.{EndsBy, HasEnd, IsFitMesh, IsFitParticipant, IsFitReceived, IsOnOwnMesh, IsFitRead, IsFitMap, IsFitWatch}
 use Rattle.config_laws.proofs.Refuted.{either_false, not_false, lacks_none, named_none, at_test, is_there, not_there, counts_one}
 
 -- what stands in an entry breaks no rule but that on data written twice perhaps
@@ -39,18 +41,19 @@ ends_one_way time windows is_time is_windows = rw (is_time, is_windows) refl
 ends_other_way : (time windows : Option ℤ) → is_some time ≡ false → is_some windows ≡ true → beq (is_some time) (is_some windows) ≡ false
 ends_other_way time windows is_time is_windows = rw (is_time, is_windows) refl
 
-end_fits : (config : Config) → HasEnd config → has_no_end config whole ≡ false
-end_fits config (inl told) =
+end_fits : (config : Config) (method : WindowWord) → EndsBy config method → lacks_end config method ≡ false
+end_fits config Fixed (inl told) =
     either_false (beq (is_some config.max_time) (is_some config.max_windows)) (is_too_far config)
     (ends_one_way config.max_time config.max_windows (is_there config.max_time told.time told.told) (not_there config.max_windows told.alone))
     (at_test (λ (time : ℤ). nat_lt (10 ^ 6 * unsigned_abs config.window) (unsigned_abs time)) config.max_time told.time false told.told (le-ltb (10 ^ 6 * unsigned_abs config.window) (unsigned_abs told.time) told.near))
-end_fits config (inr told) =
+end_fits config Fixed (inr told) =
     either_false (beq (is_some config.max_time) (is_some config.max_windows)) (is_too_far config)
     (ends_other_way config.max_time config.max_windows (not_there config.max_time told.alone) (is_there config.max_windows told.windows told.told))
     (ap (λ (time : Option ℤ). option_map_or (λ t. nat_lt (10 ^ 6 * unsigned_abs config.window) (unsigned_abs t)) time false) told.alone)
+end_fits config FirstParticipant told = not_false (is_some config.max_windows) (is_there config.max_windows told.windows told.told)
 
 pub whole_fine : (config : Config) → HasEnd config → Fine config whole
-whole_fine config has place NoEnd other before = end_fits config has
+whole_fine config has place NoEnd other before = end_fits config config.window_method has
 whole_fine config has place rule other before = refl
 
 pub data_fine : (config : Config) (table : DataTable) → Fine config (datum table)

@@ -84,6 +84,7 @@ all_open config none = entries_with (IsOpen config) config (record {
     reads = λ before entry after is. refl;
     maps = λ before entry after is. refl;
     watches = λ j e inside. refl;
+    acts = λ before entry after is. refl;
   };
   schemes = λ before table after is. record {
     own = front_open config none before table after is;

@@ -1,5 +1,5 @@
 -- The times and the numbers of iterations of an accepted configuration.
-use Rattle.std.proofs.Common.{◌≡◌, ℕ, ◌*◌, ◌^◌, ◌≤◌, true, inl, inr, List, Option, Some, None, IfSome, All, ℤ, pos, negsuc, ap, sym, subst, ◌∙◌, arith}
+use Rattle.std.proofs.Common.{◌≡◌, ℕ, ◌*◌, ◌^◌, ◌≤◌, true, inl, inr, List, Option, Some, None, IfSome, All, ℤ, pos, negsuc, refl, ap, sym, subst, ◌∙◌, arith}
 use Rattle.std.specs.Prelude.{unsigned_abs, unwrap_or, nat_le}
 use Rattle.std.specs.Option.{option_map_or}
 use Rattle.std.proofs.lemmas.Bool.{leb-true}
@@ -7,14 +7,16 @@ use Rattle.std.proofs.lemmas.Nat.{mul-le}
 use Rattle.cpl_tables.specs.Values.{is_in_range}
 use Rattle.cpl_tables.specs.declared.shapes.Range.TheVariants.{Between}
 use Rattle.cpl_plan.specs.ValidPlan.{IsCount}
+use Rattle.cpl_config.specs.declared.kind_words.WindowWord.{WindowWord}
+use Rattle.cpl_config.specs.declared.kind_words.WindowWord.TheVariants.{Fixed, FirstParticipant}
 use Rattle.cpl_config.specs.declared.config.Config.{Config}
 use Rattle.cpl_config.specs.declared.config.SchemeTable.{SchemeTable}
 use Rattle.cpl_config.specs.SoundConfig.{IsIn, IsSoundScheme, IsSoundConfig}
 use Rattle.config_rules.specs.Members.{is_implicit}
 use Rattle.config_rules.specs.ConfigRules.{IsAccepted}
-use Rattle.config_laws.specs.FitMeshes.{HasEnd}
+use Rattle.config_laws.specs.FitMeshes.{EndsBy}
 use Rattle.config_laws.specs.FitSchemes.{RepeatsWindows, IsFitScheme}
-use Rattle.config_laws.specs.FitNumbers.{end_ticks, HasTime, HasFewIterations, FewIterations}
+use Rattle.config_laws.specs.FitNumbers.{end_ticks, HasFewWindows, HasTime, HasFewIterations, FewIterations}
 use Rattle.config_laws.proofs.Splits.{each_weaker, each_all}
 use Rattle.config_laws.proofs.Truths.{both}
 use Rattle.config_laws.proofs.WholeFacts.{end, schemes}
@@ -46,26 +48,37 @@ some_windows count window most longest counted long =
     let under : count * window ≤ most * window = mul-le count window most window counted.1 (omega arith) in
     ((one, within), under)
 
-time_of : (config : Config) → IsSoundConfig config → HasEnd config → HasTime config
-time_of config sound (inl told) =
-    let is : end_ticks config ≡ unsigned_abs told.time = ticks_of_time config.max_time config.max_windows config.window told.time told.told in
-    record {
-      window = count_in (10 ^ 9) config.window sound.window;
-      end = subst (λ (n : ℕ). IsCount (10 ^ 15) n) (sym is) (count_of (10 ^ 15) config.max_time told.time told.told sound.max_time);
-      windows = subst (λ (n : ℕ). n ≤ 10 ^ 6 * unsigned_abs config.window) (sym is) told.near;
-    }
-time_of config sound (inr told) =
-    let is : end_ticks config ≡ unsigned_abs told.windows * unsigned_abs config.window = ticks_of_windows config.max_time config.max_windows config.window told.windows told.alone told.told in
+-- the end, where it is told as a time, and where it is told as a number of windows
+time_end : (config : Config) → IsSoundConfig config → (time : ℤ) → config.max_time ≡ Some time → (end_ticks config ≡ unsigned_abs time) × IsCount (10 ^ 15) (end_ticks config)
+time_end config sound time told =
+    let is : end_ticks config ≡ unsigned_abs time = ticks_of_time config.max_time config.max_windows config.window time told in
+    (is, subst (λ (n : ℕ). IsCount (10 ^ 15) n) (sym is) (count_of (10 ^ 15) config.max_time time told sound.max_time))
+
+windows_end : (config : Config) → IsSoundConfig config → (windows : ℤ) → config.max_time ≡ None → config.max_windows ≡ Some windows
+    → IsCount (10 ^ 15) (end_ticks config) × (end_ticks config ≤ 10 ^ 6 * unsigned_abs config.window)
+windows_end config sound windows none told =
+    let is : end_ticks config ≡ unsigned_abs windows * unsigned_abs config.window = ticks_of_windows config.max_time config.max_windows config.window windows none told in
     let long : IsCount (10 ^ 9) (unsigned_abs config.window) = count_in (10 ^ 9) config.window sound.window in
-    let all = some_windows (unsigned_abs told.windows) (unsigned_abs config.window) (10 ^ 6) (10 ^ 9) (count_of (10 ^ 6) config.max_windows told.windows told.told sound.max_windows) long in
-    record {
-      window = long;
-      end = subst (λ (n : ℕ). IsCount (10 ^ 15) n) (sym is) all.0;
-      windows = subst (λ (n : ℕ). n ≤ 10 ^ 6 * unsigned_abs config.window) (sym is) all.1;
-    }
+    let all = some_windows (unsigned_abs windows) (unsigned_abs config.window) (10 ^ 6) (10 ^ 9) (count_of (10 ^ 6) config.max_windows windows told sound.max_windows) long in
+    (subst (λ (n : ℕ). IsCount (10 ^ 15) n) (sym is) all.0, subst (λ (n : ℕ). n ≤ 10 ^ 6 * unsigned_abs config.window) (sym is) all.1)
+
+some_end : (config : Config) → IsSoundConfig config → (time : Option ℤ) → config.max_time ≡ time → (windows : ℤ) → config.max_windows ≡ Some windows → IsCount (10 ^ 15) (end_ticks config)
+some_end config sound None is windows told = (windows_end config sound windows is told).0
+some_end config sound (Some time) is windows told = (time_end config sound time is).1
+
+time_by : (config : Config) → IsSoundConfig config → (method : WindowWord) → EndsBy config method → IsCount (10 ^ 15) (end_ticks config) × HasFewWindows config method
+time_by config sound Fixed (inl told) =
+    let end = time_end config sound told.time told.told in
+    (end.1, subst (λ (n : ℕ). n ≤ 10 ^ 6 * unsigned_abs config.window) (sym end.0) told.near)
+time_by config sound Fixed (inr told) = windows_end config sound told.windows told.alone told.told
+time_by config sound FirstParticipant told =
+    let few : IsCount (10 ^ 6) (unsigned_abs told.windows) = count_of (10 ^ 6) config.max_windows told.windows told.told sound.max_windows in
+    (some_end config sound config.max_time refl told.windows told.told, record { windows = told.windows; told = told.told; few = few })
 
 pub time : (config : Config) → IsSoundConfig config → IsAccepted config → HasTime config
-time config sound accepted = time_of config sound (end config accepted)
+time config sound accepted =
+    let parts = time_by config sound config.window_method (end config accepted) in
+    record { window = count_in (10 ^ 9) config.window sound.window; end = parts.0; windows = parts.1 }
 
 -- iterations
 

@@ -7,21 +7,22 @@ use Rattle.cpl_config.specs.declared.config.Config.{Config}
 use Rattle.cpl_config.specs.declared.config.PartTable.{PartTable}
 use Rattle.cpl_config.specs.declared.config.ReceivesEntry.{ReceivesEntry}
 use Rattle.cpl_config.specs.declared.config.DataEntry.{DataEntry}
+use Rattle.cpl_config.specs.declared.config.ActionEntry.{ActionEntry}
 use Rattle.cpl_config.specs.declared.config.SchemeTable.{SchemeTable}
 use Rattle.cpl_config.specs.SoundConfig.{IsNameList, IsSoundScheme, IsSoundConfig}
 use Rattle.plan_order.proofs.Loops.{in_cons}
 use Rattle.config_rules.specs.Members.{is_implicit, is_multi, name_there, members, is_member}
 use Rattle.config_rules.specs.ConfigRules.{IsAccepted}
 use Rattle.config_laws.specs.Placed.{EachAfter}
-use Rattle.config_laws.specs.FitMeshes.{IsFitReceived, IsFitRead, IsFitMap}
+use Rattle.config_laws.specs.FitMeshes.{IsFitReceived, IsFitRead, IsFitMap, IsFitAction}
 use Rattle.config_laws.specs.FitSchemes.{HasTwo, HasMany, ShareNone, IsFitScheme}
 use Rattle.config_laws.specs.FitConfig.{FitSchemes}
-use Rattle.config_laws.specs.ToldOnce.{ReceivedOnce, ReadOnce, GoElsewhere, MappedOnce, ListedOnce, ShareOne, MetOnce, GroupedOnce}
+use Rattle.config_laws.specs.ToldOnce.{ReceivedOnce, ReadOnce, GoElsewhere, MappedOnce, TargetsOnce, ListedOnce, ShareOne, MetOnce, GroupedOnce}
 use Rattle.config_laws.proofs.DistinctNames.{names_distinct}
 use Rattle.config_laws.proofs.Pairs.{pairs_after}
 use Rattle.config_laws.proofs.Splits.{each_weaker, each_all}
 use Rattle.config_laws.proofs.Truths.{none_counted, counted, among, text_apart}
-use Rattle.config_laws.proofs.WholeFacts.{received_meshes, read_data, maps, schemes}
+use Rattle.config_laws.proofs.WholeFacts.{received_meshes, read_data, maps, actions, schemes}
 
 received_apart : (config : Config) (table : PartTable) → EachAfter (IsFitReceived config table) table.receives → are_distinct_texts (map (λ entry. entry.mesh) table.receives) ≡ true
 received_apart config table fits =
@@ -49,6 +50,16 @@ maps_apart config table fits = pairs_after GoElsewhere table.map (λ before entr
 pub mapped_once : (config : Config) → IsAccepted config → MappedOnce config
 mapped_once config accepted =
     All-weaker (λ (table : PartTable). EachAfter (IsFitMap config table) table.map) (λ (table : PartTable). AllPairs GoElsewhere table.map) (maps_apart config) config.participant (maps config accepted)
+
+targets_apart : (config : Config) (table : PartTable) → EachAfter (IsFitAction config table) table.action → are_distinct_texts (map (λ entry. entry.target) table.action) ≡ true
+targets_apart config table fits =
+    names_distinct (λ (entry : ActionEntry). entry.target) table.action
+    (each_weaker (IsFitAction config table) (λ (before : List ActionEntry) (entry : ActionEntry). All (λ other. other.target ≢ entry.target) before) table.action (λ before entry fit. fit.once) fits)
+
+pub targets_once : (config : Config) → IsAccepted config → TargetsOnce config
+targets_once config accepted =
+    All-weaker (λ (table : PartTable). EachAfter (IsFitAction config table) table.action) (λ (table : PartTable). are_distinct_texts (map (λ entry. entry.target) table.action) ≡ true)
+    (targets_apart config) config.participant (actions config accepted)
 
 -- members
 

@@ -273,7 +273,7 @@ fit_exchange config table entry kept =
 
 pub fit_measure : (config : Config) (table : SchemeTable) (entry : MeasureEntry) → Kept config (measured table entry) → IsFitMeasure config table entry
 fit_measure config table entry kept =
-    let first = first_found (λ (other : ExchangeEntry). bytes_eq other.data_name entry.data_name) table.exchange (holds (M.carries table entry.data_name) (kept UncarriedMeasure).2) in
+    let first = first_found (λ (other : ExchangeEntry). bytes_eq other.data_name entry.data_name) table.exchange (holds (M.exchanges_data table entry.data_name) (kept UncarriedMeasure).2) in
     record { data_declared = holds (is_data config entry.data_name) (kept Undeclared).2; exchange = first.0; first = first.1 }
 
 pub fit_acceleration : (config : Config) (table : SchemeTable) (entry : AccelEntry) → Kept config (accelerated table entry) → IsFitAcceleration config table entry

@@ -23,7 +23,8 @@ use Rattle.config_rules.specs.Members.{is_multi, is_implicit, name_there, member
 use Rattle.config_rules.specs.Members as M
 use Rattle.config_rules.specs.SchemeRules.{same_name, has_wrong_two, has_wrong_many, hands_over, writes, reads, share_two, is_implicit_with, is_over_greatest, relaxes, components_of, is_accelerated}
 use Rattle.config_rules.specs.Circles.{steps_of, has_circle, is_empty}
-use Rattle.config_rules.specs.declared.rules.ConfigRule.TheVariants.{Undeclared, OffMesh, Unmapped, WrongMembers, WrongEnds, UnsharedMesh, UnusedExchange, MetTwice, TwoImplicit, Cycle, WrongMeasures, UncarriedMeasure, WrongIterations, WrongAcceleration, WideAcceleration}
+use Rattle.config_rules.specs.declared.rules.ConfigRule.TheVariants.{Undeclared, OffMesh, Unmapped, WrongMembers, WrongEnds, UnsharedMesh, UnusedExchange, MetTwice, TwoImplicit, Cycle, WrongMeasures, UncarriedMeasure, WrongIterations, WrongAcceleration, WideAcceleration, WrongWindows}
+use Rattle.config_rules.specs.WindowRules.{has_wrong_windows}
 use Rattle.config_laws.specs.FitSchemes.{HasTwo, HasMany, RepeatsWindows, RunsOnce, ShareNone, IsFitScheme, IsMappedThere, IsMappedHere, HandsOver, IsFitExchange, IsFitMeasure, IsFitAcceleration}
 use Rattle.config_laws.proofs.CyclesOf.{both_hold}
 use Rattle.config_laws.proofs.MeshRefuted.{Fine, both_there}
@@ -132,17 +133,18 @@ iterations_fine table implicit explicit =
     (at_test (λ (most : ℤ). nat_lt (unsigned_abs most) (unsigned_abs least)) table.max_iterations has.greatest false has.told (le-ltb (unsigned_abs has.greatest) (unsigned_abs least) has.in_order)))
     (λ off. either_false (is_some table.max_iterations) (is_some table.min_iterations) (not_there table.max_iterations (explicit off).no_greatest) (not_there table.min_iterations (explicit off).no_least))
 
-pub scheme_fine : (config : Config) (earlier : List SchemeTable) (table : SchemeTable) → IsFitScheme config earlier table → Fine config (scheme earlier table)
-scheme_fine config earlier table fit place Undeclared other before = names_told config earlier table fit
-scheme_fine config earlier table fit place WrongMembers other before =
+pub scheme_fine : (config : Config) (earlier : List SchemeTable) (table : SchemeTable) → IsFitScheme config earlier table → has_wrong_windows config (scheme earlier table) ≡ false → Fine config (scheme earlier table)
+scheme_fine config earlier table fit windows place Undeclared other before = names_told config earlier table fit
+scheme_fine config earlier table fit windows place WrongMembers other before =
     choice_false (is_multi table) (has_wrong_many table) (has_wrong_two table) (λ multi. many_fine table (fit.many multi)) (λ few. two_fine table (fit.two few))
-scheme_fine config earlier table fit place MetTwice other before = meets_fine table earlier fit.meets_once
-scheme_fine config earlier table fit place TwoImplicit other before = group_fine table earlier fit.one_group
-scheme_fine config earlier table fit place Cycle other before =
+scheme_fine config earlier table fit windows place MetTwice other before = meets_fine table earlier fit.meets_once
+scheme_fine config earlier table fit windows place TwoImplicit other before = group_fine table earlier fit.one_group
+scheme_fine config earlier table fit windows place Cycle other before =
     fails (has_circle (steps_of config (earlier ++ table ∷ []))) (λ has. fit.no_circle (circle_meant (steps_of config (earlier ++ table ∷ [])) has))
-scheme_fine config earlier table fit place WrongMeasures other before = measures_fine table fit.implicit fit.explicit
-scheme_fine config earlier table fit place WrongIterations other before = iterations_fine table fit.implicit fit.explicit
-scheme_fine config earlier table fit place rule other before = refl
+scheme_fine config earlier table fit windows place WrongMeasures other before = measures_fine table fit.implicit fit.explicit
+scheme_fine config earlier table fit windows place WrongIterations other before = iterations_fine table fit.implicit fit.explicit
+scheme_fine config earlier table fit windows place WrongWindows other before = windows
+scheme_fine config earlier table fit windows place rule other before = refl
 
 -- exchanges
 
@@ -224,7 +226,7 @@ found_any p (y ∷ ys) x found = found_first p y ys x (p y) found (found_any p y
 pub measure_fine : (config : Config) (table : SchemeTable) (entry : MeasureEntry) → IsFitMeasure config table entry → Fine config (measured table entry)
 measure_fine config table entry fit place Undeclared other before = not_false (is_data config entry.data_name) fit.data_declared
 measure_fine config table entry fit place UncarriedMeasure other before =
-    not_false (M.carries table entry.data_name) (found_any (λ (one : ExchangeEntry). bytes_eq one.data_name entry.data_name) table.exchange fit.exchange fit.first)
+    not_false (M.exchanges_data table entry.data_name) (found_any (λ (one : ExchangeEntry). bytes_eq one.data_name entry.data_name) table.exchange fit.exchange fit.first)
 measure_fine config table entry fit place rule other before = refl
 
 pub acceleration_fine : (config : Config) (table : SchemeTable) (entry : AccelEntry) → IsFitAcceleration config table entry → Fine config (accelerated table entry)

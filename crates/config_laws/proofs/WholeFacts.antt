@@ -10,18 +10,20 @@ use Rattle.cpl_config.specs.declared.config.ReceivesEntry.{ReceivesEntry}
 use Rattle.cpl_config.specs.declared.config.DataEntry.{DataEntry}
 use Rattle.cpl_config.specs.declared.config.MapEntry.{MapEntry}
 use Rattle.cpl_config.specs.declared.config.WatchEntry.{WatchEntry}
+use Rattle.cpl_config.specs.declared.config.ActionEntry.{ActionEntry}
 use Rattle.cpl_config.specs.declared.config.SchemeTable.{SchemeTable}
 use Rattle.cpl_config.specs.declared.config.ExchangeEntry.{ExchangeEntry}
 use Rattle.cpl_config.specs.declared.config.MeasureEntry.{MeasureEntry}
 use Rattle.cpl_config.specs.declared.config.AccelEntry.{AccelEntry}
-use Rattle.mesh_rules.specs.Entries.{mesh, received, written, read, mapped, watched, exchanged, measured, accelerated}
+use Rattle.mesh_rules.specs.Entries.{mesh, received, written, read, mapped, watched, acted, exchanged, measured, accelerated}
 use Rattle.config_rules.specs.ConfigRules.{IsAccepted}
 use Rattle.config_laws.specs.Placed.{EachAfter}
-use Rattle.config_laws.specs.FitMeshes.{HasEnd, IsFitMesh, IsFitParticipant, IsFitReceived, IsOnOwnMesh, IsFitRead, IsFitMap, IsFitWatch}
+use Rattle.config_laws.specs.FitMeshes.{HasEnd, IsFitMesh, IsFitParticipant, IsFitReceived, IsOnOwnMesh, IsFitRead, IsFitMap, IsFitWatch, IsFitAction}
 use Rattle.config_laws.specs.FitSchemes.{IsFitScheme, IsFitExchange, IsFitMeasure, IsFitAcceleration}
-use Rattle.config_laws.specs.FitConfig.{FitMeshes, FitParticipants, FitReceived, FitWritten, FitRead, FitMaps, FitWatches, FitSchemes, FitExchanges, FitMeasures, FitAccelerations}
+use Rattle.config_laws.specs.FitConfig.{FitMeshes, FitParticipants, FitReceived, FitWritten, FitRead, FitMaps, FitWatches, FitActions, FitSchemes, FitExchanges, FitMeasures, FitAccelerations}
 use Rattle.config_laws.proofs.Splits.{each_weaker, each_all}
 use Rattle.config_laws.proofs.KeptRules.{Kept, KeptParticipant, KeptScheme, kept}
+use Rattle.config_laws.proofs.ActionFacts.{fit_action}
 use Rattle.config_laws.proofs.MeshFacts.{fit_end, fit_mesh, fit_participant, fit_received, fit_written, fit_read, fit_map, fit_watch}
 use Rattle.config_laws.proofs.SchemeFacts.{fit_scheme, fit_exchange, fit_measure, fit_acceleration}
 
@@ -66,6 +68,11 @@ pub watches : (config : Config) → IsAccepted config → FitWatches config
 watches config accepted =
     in_participants config (λ (table : PartTable). All (IsFitWatch config table) table.watch)
     (λ table keeps. All-weaker (λ (entry : WatchEntry). Kept config (watched table entry)) (IsFitWatch config table) (fit_watch config table) table.watch keeps.watches) accepted
+
+pub actions : (config : Config) → IsAccepted config → FitActions config
+actions config accepted =
+    in_participants config (λ (table : PartTable). EachAfter (IsFitAction config table) table.action)
+    (λ table keeps. each_weaker (λ (before : List ActionEntry) (entry : ActionEntry). Kept config (acted table before entry)) (IsFitAction config table) table.action (fit_action config table) keeps.acts) accepted
 
 pub schemes : (config : Config) → IsAccepted config → FitSchemes config
 schemes config accepted = each_weaker (KeptScheme config) (IsFitScheme config) config.scheme (fit_scheme config) (kept config accepted).schemes

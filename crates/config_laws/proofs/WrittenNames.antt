@@ -11,7 +11,7 @@ use Rattle.cpl_config.specs.declared.config.PartTable.{PartTable}
 use Rattle.cpl_config.specs.declared.config.DataEntry.{DataEntry}
 use Rattle.cpl_config.specs.declared.config.SchemeTable.{SchemeTable}
 use Rattle.cpl_config.specs.declared.config.AccelEntry.{AccelEntry}
-use Rattle.mesh_rules.specs.Entries.{Held, whole, datum, mesh, participant, received, written, read, mapped, watched, scheme, exchanged, measured, accelerated, Entry, at, each_after, each, received_entries, written_entries, read_entries, mapped_entries, watched_entries, entries_of_participant, exchanged_entries, measured_entries, accelerated_entries, entries_of_scheme, data_entries, mesh_entries, participant_entries, scheme_entries, entries_of}
+use Rattle.mesh_rules.specs.Entries.{Held, whole, datum, mesh, participant, received, written, read, mapped, watched, acted, scheme, exchanged, measured, accelerated, Entry, at, each_after, each, received_entries, written_entries, read_entries, mapped_entries, watched_entries, acted_entries, entries_of_participant, exchanged_entries, measured_entries, accelerated_entries, entries_of_scheme, data_entries, mesh_entries, participant_entries, scheme_entries, entries_of}
 use Rattle.mesh_rules.specs.MeshRules.{writes_data, is_written_twice}
 use Rattle.config_rules.specs.Members.{name_there}
 use Rattle.config_rules.specs.declared.rules.ConfigRule.TheVariants.{WrittenTwice}
@@ -41,6 +41,7 @@ not_its_name name (received table earlier entry) h is = cc
 not_its_name name (read table earlier entry) h is = cc
 not_its_name name (mapped table earlier entry) h is = cc
 not_its_name name (watched table entry) h is = cc
+not_its_name name (acted table earlier entry) h is = cc
 not_its_name name (scheme earlier table) h is = cc
 not_its_name name (exchanged table entry) h is = cc
 not_its_name name (measured table entry) h is = cc
@@ -58,6 +59,7 @@ new_here before (received table earlier entry) h = tt
 new_here before (read table earlier entry) h = tt
 new_here before (mapped table earlier entry) h = tt
 new_here before (watched table entry) h = tt
+new_here before (acted table earlier entry) h = tt
 new_here before (scheme earlier table) h = tt
 new_here before (exchanged table entry) h = tt
 new_here before (measured table entry) h = tt
@@ -101,14 +103,17 @@ participant_names p table =
     let es2 : List Entry = es1 ++ written_entries p table in
     let es3 : List Entry = es2 ++ read_entries p table in
     let es4 : List Entry = es3 ++ mapped_entries p table in
+    let es5 : List Entry = es4 ++ watched_entries p table in
     let own : flat_map names_of es1 ≡ [] = quiet_right es0 (received_entries p table) [] refl (quiet (λ n before entry. at (P.Receives p n) (received table before entry)) (λ n before entry. refl) table.receives) in
     let writes : flat_map names_of (written_entries p table) ≡ names =
     made_names (λ n before entry. at (P.Write p n) (written table entry)) (λ (entry : DataEntry). entry.data_name ∷ []) (λ n before entry. refl) [] table.write ∙ flat_map_single (λ (entry : DataEntry). entry.data_name) table.write in
     let reads : flat_map names_of es3 ≡ names =
     quiet_right es2 (read_entries p table) names (quiet_left es1 (written_entries p table) names own writes) (quiet (λ n before entry. at (P.Read p n) (read table before entry)) (λ n before entry. refl) table.read) in
+    let watches : flat_map names_of es5 ≡ names =
     quiet_right es4 (watched_entries p table) names
     (quiet_right es3 (mapped_entries p table) names reads (quiet (λ n before entry. at (P.Map p n) (mapped table before entry)) (λ n before entry. refl) table.map))
-    (quiet (λ n before entry. at (P.Watch p n) (watched table entry)) (λ n before entry. refl) table.watch)
+    (quiet (λ n before entry. at (P.Watch p n) (watched table entry)) (λ n before entry. refl) table.watch) in
+    quiet_right es5 (acted_entries p table) names watches (quiet (λ n before entry. at (P.Action p n) (acted table before entry)) (λ n before entry. refl) table.action)
 
 acceleration_names : (s : ℕ) (table : SchemeTable) (acceleration : Option AccelEntry) → flat_map names_of (accelerated_entries s table acceleration) ≡ []
 acceleration_names s table None = refl

@@ -1,10 +1,11 @@
 -- The entries of each kind, each of which fits the rest of a configuration. The project's own.
-use Rattle.std.specs.Prelude.{All, IfSome}
+use Rattle.std.specs.Prelude.{◌≡◌, All, IfSome}
+use Rattle.cpl_config.specs.declared.kind_words.WindowWord.TheVariants.{FirstParticipant}
 use Rattle.cpl_config.specs.declared.config.Config.{Config}
 use Rattle.config_laws.specs.Placed.{EachAfter}
 use Rattle.config_laws.specs.ToldOnce.{WrittenOnce}
-use Rattle.config_laws.specs.FitMeshes.{HasEnd, IsFitMesh, IsFitParticipant, IsFitReceived, IsOnOwnMesh, IsFitRead, IsFitMap, IsFitWatch}
-use Rattle.config_laws.specs.FitSchemes.{IsFitScheme, IsFitExchange, IsFitMeasure, IsFitAcceleration}
+use Rattle.config_laws.specs.FitMeshes.{HasEnd, IsFitMesh, IsFitParticipant, IsFitReceived, IsOnOwnMesh, IsFitRead, IsFitMap, IsFitWatch, IsFitAction}
+use Rattle.config_laws.specs.FitSchemes.{IsFitScheme, IsFitExchange, IsFitMeasure, IsFitAcceleration, HasWindowMaker}
 
 abbrev pub FitMeshes : Config → Type 0
 FitMeshes config = All (IsFitMesh config) config.mesh
@@ -27,6 +28,9 @@ FitMaps config = All (λ table. EachAfter (IsFitMap config table) table.map) con
 abbrev pub FitWatches : Config → Type 0
 FitWatches config = All (λ table. All (IsFitWatch config table) table.watch) config.participant
 
+abbrev pub FitActions : Config → Type 0
+FitActions config = All (λ table. EachAfter (IsFitAction config table) table.action) config.participant
+
 abbrev pub FitSchemes : Config → Type 0
 FitSchemes config = EachAfter (IsFitScheme config) config.scheme
 
@@ -39,6 +43,10 @@ FitMeasures config = All (λ table. All (IsFitMeasure config table) table.measur
 abbrev pub FitAccelerations : Config → Type 0
 FitAccelerations config = All (λ table. IfSome table.acceleration (IsFitAcceleration config table)) config.scheme
 
+-- where the steps of the first participant are the windows, it is known whose they are, and for whom
+abbrev pub FitWindows : Config → Type 0
+FitWindows config = config.window_method ≡ FirstParticipant → HasWindowMaker config
+
 -- all that acceptance says, entry by entry
 pub record FitsTogether (config : Config) : Type 0 where
   pub end : HasEnd config
@@ -50,7 +58,9 @@ pub record FitsTogether (config : Config) : Type 0 where
   pub read : FitRead config
   pub mapped : FitMaps config
   pub watched : FitWatches config
+  pub acted : FitActions config
   pub schemes : FitSchemes config
   pub exchanged : FitExchanges config
   pub measured : FitMeasures config
   pub accelerated : FitAccelerations config
+  pub windows : FitWindows config

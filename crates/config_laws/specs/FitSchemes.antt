@@ -2,6 +2,7 @@
 use Rattle.std.specs.Prelude.{◌≡◌, ◌≢◌, ◌⊎◌, ℕ, ◌≤◌, IsTrue, IsFalse, List, [], ◌∷◌, ◌++◌, length, filter, find, count_by, sum_by, Some, None, unwrap_or, All, Contains, ℤ, pos, unsigned_abs}
 use Rattle.std.specs.Str.{bytes_eq}
 use Rattle.cpl_config.specs.declared.kind_words.Direction.TheVariants.{Read, Write}
+use Rattle.cpl_config.specs.declared.kind_words.KindWord.TheVariants.{SerialExplicit}
 use Rattle.cpl_config.specs.declared.config.Config.{Config}
 use Rattle.cpl_config.specs.declared.config.PartTable.{PartTable}
 use Rattle.cpl_config.specs.declared.config.DataEntry.{DataEntry}
@@ -115,3 +116,13 @@ pub record IsFitAcceleration (config : Config) (table : SchemeTable) (entry : Ac
   pub some : 1 ≤ length entry.data_list
   pub relaxed : All (λ name. IsTrue (relaxes table name)) entry.data_list
   pub narrow : sum_by (components_of config) (filter (is_accelerated table entry) table.exchange) ≤ 20
+
+-- there is one scheme alone, which is serial-explicit, and an exchange of it goes from its first to its second
+pub record HasWindowMaker (config : Config) : Type 0 where
+  pub table : SchemeTable
+  pub alone : config.scheme ≡ table ∷ []
+  pub serial_explicit : table.kind ≡ SerialExplicit
+  pub forward : ExchangeEntry
+  pub there : Contains table.exchange forward
+  pub from_first : table.first ≡ Some forward.from
+  pub to_second : table.second ≡ Some forward.to

@@ -32,6 +32,10 @@ GoElsewhere one other = IsFalse (goes other.direction other.from other.to one)
 abbrev pub MappedOnce : Config → Type 0
 MappedOnce config = All (λ table. AllPairs GoElsewhere table.map) config.participant
 
+-- no two actions of a participant have one target
+abbrev pub TargetsOnce : Config → Type 0
+TargetsOnce config = All (λ table. IsTrue (are_distinct_texts (map (λ entry. entry.target) table.action))) config.participant
+
 -- no scheme lists a participant twice
 abbrev pub ListedOnce : Config → Type 0
 ListedOnce config = All (λ table. IsTrue (are_distinct_texts (members table))) config.scheme

@@ -4,6 +4,8 @@ use Rattle.cpl_config.specs.declared.kind_words.DataKind.TheVariants.{Scalar}
 use Rattle.cpl_config.specs.declared.kind_words.KindWord.TheVariants.{SerialExplicit}
 use Rattle.cpl_config.specs.declared.kind_words.Direction.TheVariants.{Read}
 use Rattle.cpl_config.specs.declared.kind_words.Constraint.TheVariants.{Consistent}
+use Rattle.cpl_config.specs.declared.kind_words.MapWord.TheVariants.{NearestNeighbor}
+use Rattle.cpl_config.specs.declared.kind_words.WindowWord.TheVariants.{Fixed}
 use Rattle.cpl_config.specs.declared.config.Config.{Config}
 use Rattle.cpl_config.specs.declared.config.DataTable.{DataTable}
 use Rattle.cpl_config.specs.declared.config.MeshTable.{MeshTable}
@@ -30,7 +32,7 @@ heated name = record { name = name; dimensions = pos 2; data_list = heat ∷ [] 
 
 -- a participant that has nothing to do
 abbrev pub idle : List ℕ → PartTable
-idle name = record { name = name; case = name; provides = []; receives = []; write = []; read = []; map = []; watch = [] }
+idle name = record { name = name; case = name; provides = []; receives = []; write = []; read = []; map = []; watch = []; action = [] }
 
 -- the first is solved before the second, and what it gives is exchanged
 abbrev pub one_after_the_other : (first second : List ℕ) → List ExchangeEntry → SchemeTable
@@ -57,6 +59,7 @@ ten_windows data_list meshes participants schemes = record {
   mesh = meshes;
   participant = participants;
   scheme = schemes;
+  window_method = Fixed;
 }
 
 -- A heats B: B receives the mesh of A, and maps the heat onto its own
@@ -68,7 +71,7 @@ a_heats_b =
       provides = letter_b ∷ [];
       receives = record { mesh = letter_a; from = letter_a } ∷ [];
       read = record { data_name = heat; mesh = letter_b } ∷ [];
-      map = record { direction = Read; from = letter_a; to = letter_b; constraint = Consistent } ∷ [];
+      map = record { direction = Read; from = letter_a; to = letter_b; constraint = Consistent; method = NearestNeighbor } ∷ [];
     }
     ∷ [])
     (one_after_the_other letter_a letter_b (record { data_name = heat; mesh = letter_a; from = letter_a; to = letter_b; initialize = false; substeps = true } ∷ []) ∷ [])

@@ -1,27 +1,13 @@
--- One rule more, and what a refusal tells.
-use Rattle.std.proofs.Common.{◌≡◌, Option, Some, None, option_map, All, refl, ap, lit<}
-use Rattle.cpl_tables.specs.declared.places.Place.{Place}
+-- What a refusal tells, and what there is where there is none.
+use Rattle.std.proofs.Common.{◌≡◌, Option, Some, None, option_map, All, refl, lit<}
 use Rattle.cpl_rules.specs.declared.rules.Refusal.{Refusal}
-use Rattle.cpl_rules.specs.FirstBroken.{at_or, first_broken, IsUnbroken}
+use Rattle.cpl_rules.specs.FirstBroken.{first_broken, IsUnbroken}
 use Rattle.cpl_rules.proofs.FirstPlaces.{first_broken-none, first_broken-some}
 use Rattle.cpl_config.specs.declared.config.Config.{Config}
 use Rattle.mesh_rules.specs.Entries.{Entry, entries_of}
 use Rattle.config_rules.specs.declared.rules.ConfigRule.{ConfigRule}
-use Rattle.config_rules.specs.declared.rules.ConfigRule.TheVariants.{Undeclared, NoEnd, NoProvider, WronglyReceived, OffMesh, WrittenTwice, WronglyMapped, Unmapped, WrongMembers, WrongEnds, UnsharedMesh, UnusedExchange, Unfed, MetTwice, TwoImplicit, Cycle, NoScheme, WrongMeasures, UncarriedMeasure, WrongIterations, WrongAcceleration, WideAcceleration}
-use Rattle.config_rules.specs.ConfigRules.{breaks, config_rules, number_of_rule, refused_for, config_refusal, IsConfigRefused, IsAccepted}
-
--- a rule that is broken is told
-pub told_here : (rule : ConfigRule) (found : Option Entry) (later : Option (ConfigRule × Entry)) (place : Place) → Some place ≡ option_map (λ at. at.place) found
-    → Some (record { rule = number_of_rule rule; place = place }) ≡ option_map refused_for (at_or rule found later)
-told_here rule None later place h = cc
-told_here rule (Some at) later place h =
-    let same : place ≡ at.place = cc in
-    ap (λ p. Some (record { rule = number_of_rule rule; place = p })) same
-
--- one that is not leaves it to the later rules
-pub told_later : (rule : ConfigRule) (found : Option Entry) (later : Option (ConfigRule × Entry)) → None ≡ option_map (λ at. at.place) found → at_or rule found later ≡ later
-told_later rule None later h = refl
-told_later rule (Some at) later h = cc
+use Rattle.config_rules.specs.declared.rules.ConfigRule.TheVariants.{Undeclared, NoEnd, NoProvider, WronglyReceived, OffMesh, WrittenTwice, WronglyMapped, Unmapped, WrongMembers, WrongEnds, UnsharedMesh, UnusedExchange, Unfed, MetTwice, TwoImplicit, Cycle, NoScheme, WrongMeasures, UncarriedMeasure, WrongIterations, WrongAcceleration, WideAcceleration, WrongWindows, WrongAction}
+use Rattle.config_rules.specs.ConfigRules.{breaks, config_rules, refused_for, config_refusal, IsConfigRefused, IsAccepted}
 
 all_kept : (config : Config) → All (λ rule. IsUnbroken (breaks config rule) (entries_of config)) config_rules → IsAccepted config
 all_kept config h Undeclared = h 0 Undeclared (lit< tt)
@@ -46,6 +32,8 @@ all_kept config h UncarriedMeasure = h 18 Undeclared (lit< tt)
 all_kept config h WrongIterations = h 19 Undeclared (lit< tt)
 all_kept config h WrongAcceleration = h 20 Undeclared (lit< tt)
 all_kept config h WideAcceleration = h 21 Undeclared (lit< tt)
+all_kept config h WrongWindows = h 22 Undeclared (lit< tt)
+all_kept config h WrongAction = h 23 Undeclared (lit< tt)
 
 accepted_by : (config : Config) (found : Option (ConfigRule × Entry)) → first_broken (breaks config) config_rules (entries_of config) ≡ found → option_map refused_for found ≡ None → IsAccepted config
 accepted_by config None h none = all_kept config (first_broken-none (breaks config) config_rules (entries_of config) h)

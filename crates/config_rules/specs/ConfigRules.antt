@@ -5,9 +5,11 @@ use Rattle.cpl_rules.specs.declared.rules.Refusal.{Refusal}
 use Rattle.cpl_rules.specs.FirstBroken.{first_broken, IsFirstBroken, IsUnbroken}
 use Rattle.mesh_rules.specs.Entries.{Entry, entries_of}
 use Rattle.mesh_rules.specs.MeshRules.{names_nothing, has_no_end, has_no_provider, is_wrongly_received, is_off_mesh, is_written_twice, is_wrongly_mapped, is_unmapped}
+use Rattle.mesh_rules.specs.ActionRules.{is_wrong_action}
+use Rattle.config_rules.specs.WindowRules.{has_wrong_windows}
 use Rattle.config_rules.specs.SchemeRules.{has_wrong_members, has_wrong_ends, is_unshared, is_unused, is_unfed, meets_twice, shares_implicit, closes_circle, is_alone, has_wrong_measures, is_uncarried, has_wrong_iterations, is_wrongly_accelerated, is_wide}
 use Rattle.config_rules.specs.declared.rules.ConfigRule.{ConfigRule}
-use Rattle.config_rules.specs.declared.rules.ConfigRule.TheVariants.{Undeclared, NoEnd, NoProvider, WronglyReceived, OffMesh, WrittenTwice, WronglyMapped, Unmapped, WrongMembers, WrongEnds, UnsharedMesh, UnusedExchange, Unfed, MetTwice, TwoImplicit, Cycle, NoScheme, WrongMeasures, UncarriedMeasure, WrongIterations, WrongAcceleration, WideAcceleration}
+use Rattle.config_rules.specs.declared.rules.ConfigRule.TheVariants.{Undeclared, NoEnd, NoProvider, WronglyReceived, OffMesh, WrittenTwice, WronglyMapped, Unmapped, WrongMembers, WrongEnds, UnsharedMesh, UnusedExchange, Unfed, MetTwice, TwoImplicit, Cycle, NoScheme, WrongMeasures, UncarriedMeasure, WrongIterations, WrongAcceleration, WideAcceleration, WrongWindows, WrongAction}
 
 -- the entry breaks the rule, after the entries before it
 abbrev pub breaks : Config → ConfigRule → List Entry → Entry → Bool
@@ -33,13 +35,16 @@ breaks config UncarriedMeasure _ entry = is_uncarried entry.held
 breaks config WrongIterations _ entry = has_wrong_iterations entry.held
 breaks config WrongAcceleration _ entry = is_wrongly_accelerated entry.held
 breaks config WideAcceleration _ entry = is_wide config entry.held
+breaks config WrongWindows _ entry = has_wrong_windows config entry.held
+breaks config WrongAction _ entry = is_wrong_action config entry.held
 
 -- the rules, in their order
 abbrev pub config_rules : List ConfigRule
 config_rules =
     Undeclared ∷ NoEnd ∷ NoProvider ∷ WronglyReceived ∷ OffMesh ∷ WrittenTwice ∷ WronglyMapped ∷ Unmapped
     ∷ WrongMembers ∷ WrongEnds ∷ UnsharedMesh ∷ UnusedExchange ∷ Unfed ∷ MetTwice ∷ TwoImplicit ∷ Cycle ∷ NoScheme
-    ∷ WrongMeasures ∷ UncarriedMeasure ∷ WrongIterations ∷ WrongAcceleration ∷ WideAcceleration ∷ []
+    ∷ WrongMeasures ∷ UncarriedMeasure ∷ WrongIterations ∷ WrongAcceleration ∷ WideAcceleration
+    ∷ WrongWindows ∷ WrongAction ∷ []
 
 -- the number by which a refusal names a rule
 abbrev pub number_of_rule : ConfigRule → ℕ
@@ -65,6 +70,8 @@ number_of_rule UncarriedMeasure = 27
 number_of_rule WrongIterations = 28
 number_of_rule WrongAcceleration = 29
 number_of_rule WideAcceleration = 30
+number_of_rule WrongWindows = 33
+number_of_rule WrongAction = 35
 
 -- a broken rule and the entry that breaks it, as they are told
 abbrev pub refused_for : ConfigRule × Entry → Refusal

@@ -47,8 +47,8 @@ abbrev pub first_name : List (List ℕ) → List ℕ
 first_name [] = []
 first_name (name ∷ _) = name
 
-abbrev pub carries : SchemeTable → List ℕ → Bool
-carries table data_name = list_any (λ entry. bytes_eq entry.data_name data_name) table.exchange
+abbrev pub exchanges_data : SchemeTable → List ℕ → Bool
+exchanges_data table data_name = list_any (λ entry. bytes_eq entry.data_name data_name) table.exchange
 
 -- an exchange of a scheme goes to its second
 abbrev pub goes_to_second : SchemeTable → ExchangeEntry → Bool

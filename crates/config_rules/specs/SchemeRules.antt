@@ -15,7 +15,7 @@ use Rattle.cpl_config.specs.declared.config.AccelEntry.{AccelEntry}
 use Rattle.cpl_config.specs.SoundConfig.{all_exchanges}
 use Rattle.mesh_rules.specs.Entries.{Held, participant, read, scheme, exchanged, measured, accelerated}
 use Rattle.mesh_rules.specs.Named.{data_called, is_among, dimensions_of, provides, receives, holds_of}
-use Rattle.config_rules.specs.Members.{is_multi, is_implicit, members, is_member, carries, is_iterated}
+use Rattle.config_rules.specs.Members.{is_multi, is_implicit, members, is_member, exchanges_data, is_iterated}
 use Rattle.config_rules.specs.Circles.{steps_of, has_circle, is_empty}
 
 abbrev pub same_name : Option (List ℕ) → Option (List ℕ) → Bool
@@ -118,7 +118,7 @@ has_wrong_measures _ = false
 
 -- a measure's data are carried by no exchange of its scheme
 abbrev pub is_uncarried : Held → Bool
-is_uncarried (measured table entry) = not (carries table entry.data_name)
+is_uncarried (measured table entry) = not (exchanges_data table entry.data_name)
 is_uncarried _ = false
 
 -- the least number of iterations is over the greatest; the least is 1 where it is left out

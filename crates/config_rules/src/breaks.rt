@@ -11,11 +11,12 @@ use crate::schemes::{
     has_wrong_iterations, has_wrong_measures, has_wrong_members, is_alone, meets_twice,
     shares_implicit,
 };
+use crate::windows::has_wrong_windows;
 use cpl_config::Config;
 use fixed_num::Memory;
 use mesh_rules::{
-    Spot, has_no_end, has_no_provider, is_off_mesh, is_unmapped, is_written_twice,
-    is_wrongly_mapped, is_wrongly_received, names_nothing,
+    EntrySpot, has_no_end, has_no_provider, is_off_mesh, is_unmapped, is_written_twice,
+    is_wrong_action, is_wrongly_mapped, is_wrongly_received, names_nothing,
 };
 use std::alloc::Global;
 
@@ -24,8 +25,8 @@ pub fn breaks(
     alloc: Global,
     config: &Config,
     rule: ConfigRule,
-    before: &[Spot],
-    spot: Spot,
+    before: &[EntrySpot],
+    spot: EntrySpot,
 ) -> Result<bool, Memory>
     ensures { IfOk result (λ broken. broken ≡ breaks config.now rule (map entry_of before.now) (entry_of spot.entry)) }
 {
@@ -53,5 +54,7 @@ pub fn breaks(
         ConfigRule::WrongIterations => Ok(has_wrong_iterations(held)),
         ConfigRule::WrongAcceleration => Ok(is_wrongly_accelerated(held)),
         ConfigRule::WideAcceleration => Ok(is_wide(config, held)),
+        ConfigRule::WrongWindows => Ok(has_wrong_windows(config, held)),
+        ConfigRule::WrongAction => Ok(is_wrong_action(config, held)),
     }
 }

@@ -1,24 +1,21 @@
 //! The first broken rule of a configuration.
-ghost use Rattle.std.specs.Prelude.{◌≡◌, Ok, map, option_map, IfOk, OnOk};
+ghost use Rattle.std.specs.Prelude.{◌≡◌, map, IfOk, OnOk};
 ghost use Rattle.cpl_rules.specs.declared.rules.Refusal.{Refusal};
-ghost use Rattle.cpl_rules.specs.FirstBroken.{first_place, first_broken};
 ghost use Rattle.cpl_config.specs.Acceptance.{unless_refused};
 ghost use Rattle.cpl_config.specs.SoundConfig.{IsSoundConfig};
 ghost use Rattle.cpl_config.specs.Answers.{Answers};
-ghost use Rattle.mesh_rules.specs.Spots.{entry_of};
-ghost use Rattle.config_rules.specs.ConfigRules.{breaks, refused_for, config_refusal, IsConfigRefused, IsAccepted};
+ghost use Rattle.config_rules.specs.ConfigRules.{config_refusal, IsConfigRefused, IsAccepted};
 
 use crate::breaks::breaks;
 use crate::rules::ConfigRule;
 use cpl_config::{Config, ConfigErr};
-use cpl_rules::Refusal;
-use cpl_tables::Place;
+use cpl_rules::{Refusal, SpotRules, first_broken};
 use fixed_num::Memory;
-use mesh_rules::Spot;
+use mesh_rules::EntrySpot;
 use mesh_rules::entries::entries;
 use std::alloc::Global;
 
-static RULES: [ConfigRule; 22] = [
+static RULES: [ConfigRule; 24] = [
     ConfigRule::Undeclared,
     ConfigRule::NoEnd,
     ConfigRule::NoProvider,
@@ -41,12 +38,14 @@ static RULES: [ConfigRule; 22] = [
     ConfigRule::WrongIterations,
     ConfigRule::WrongAcceleration,
     ConfigRule::WideAcceleration,
+    ConfigRule::WrongWindows,
+    ConfigRule::WrongAction,
 ];
 
 /// Checks a configuration as a whole: its names, its end, its meshes and mappings, its schemes and
-/// exchanges.
+/// exchanges, and its actions.
 ///
-/// The answer is the first broken rule of 9 to 30, at its first place, and nothing where none is
+/// The answer is the first broken rule of 9 to 30, 33 and 35, at its first place, and nothing where none is
 /// broken. A rule is tried over all entries before the next rule. Takes near linear time for what
 /// the limits on lists allow. `Memory` says nothing of the configuration.
 pub fn check_config(alloc: Global, config: &Config) -> Result<(), ConfigErr>
@@ -72,43 +71,57 @@ fn refusal_of(alloc: Global, config: &Config) -> Result<Option<Refusal>, Memory>
     ensures { IfOk result (λ refusal. refusal ≡ config_refusal config.now) }
 {
     let spots = entries(alloc, config)?;
-    let refusal = first_broken(alloc, config, &RULES, &spots)?;
+    let refusal = first_broken(alloc, &WholeRules { config }, &RULES, &spots)?;
     Ok(refusal)
 }
 
-/// The first broken one of some rules, and the place of the first entry that breaks it.
-fn first_broken(
-    alloc: Global,
-    config: &Config,
-    rules: &[ConfigRule],
-    spots: &[Spot],
-) -> Result<Option<Refusal>, Memory>
-    ensures { IfOk result (λ refusal. refusal ≡ option_map refused_for (first_broken (breaks config.now) rules.now (map entry_of spots.now))) }
-{
-    'rules: for rule in rules {
-        if let Some(place) = first_place(alloc, config, *rule, spots)? {
-            return Ok(Some(Refusal {
-                rule: rule.number(),
-                place,
-            }));
-        }
-    }
-    Ok(None)
+/// The rules over a configuration, tried at its entries.
+#[derive(Clone, Copy)]
+struct WholeRules<'a> {
+    config: &'a Config,
 }
 
-/// The place of the first entry that breaks a rule.
-fn first_place(
-    alloc: Global,
-    config: &Config,
-    rule: ConfigRule,
-    spots: &[Spot],
-) -> Result<Option<Place>, Memory>
-    ensures { IfOk result (λ place. place ≡ option_map (λ at. at.place) (first_place (breaks config.now rule) (map entry_of spots.now))) }
-{
-    'spots: for (index, spot) in spots.iter().enumerate() {
-        if breaks(alloc, config, rule, &spots[..index], *spot)? {
-            return Ok(Some(spot.place));
+impl<'a> SpotRules<ConfigRule, EntrySpot<'a>> for WholeRules<'a> {
+    ghost use Rattle.mesh_rules.specs.Entries.{Entry as ConfigEntry};
+    ghost use Rattle.mesh_rules.specs.Spots.{entry_of};
+    ghost use Rattle.config_rules.specs.ConfigRules.{breaks, refused_for};
+
+    type Known = ();
+
+    ghost Entry = { ConfigEntry };
+
+    ghost entry = { entry_of };
+
+    ghost broken_at = { λ rules. breaks rules.config.now };
+
+    ghost told = { λ rule held. refused_for (rule, held) };
+
+    ghost knows = { λ _ _ _. Unit {0} };
+
+    ghost is_fit = { λ _ _. Unit {0} };
+
+    fn nothing_known(&self, _alloc: Global, _rule: ConfigRule) {}
+
+    fn is_broken(
+        &self,
+        alloc: Global,
+        rule: ConfigRule,
+        before: &[EntrySpot<'a>],
+        _known: &mut (),
+        spot: EntrySpot<'a>,
+    ) -> Result<bool, Memory>
+        ensures broken { IfOk result (λ broken. broken ≡ breaks self.now.config.now rule (map entry_of before.now) (entry_of spot.entry)) }
+        ensures known { OnOk result (Unit {0}) }
+    {
+        breaks(alloc, self.config, rule, before, spot)
+    }
+
+    fn refusal_at(&self, rule: ConfigRule, spot: EntrySpot<'a>) -> Refusal
+        ensures { result ≡ refused_for (rule, entry_of spot.entry) }
+    {
+        Refusal {
+            rule: rule.number(),
+            place: spot.place,
         }
     }
-    Ok(None)
 }

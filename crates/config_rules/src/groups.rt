@@ -3,7 +3,7 @@ ghost use Rattle.std.specs.Prelude.{◌≡◌, ◌≤◌, ◌<◌, ◌^◌, [], 
 ghost use Rattle.std.specs.List.{list_any};
 ghost use Rattle.std.specs.Str.{bytes_eq};
 ghost use Rattle.mesh_rules.specs.Named.{is_among};
-ghost use Rattle.config_rules.specs.Members.{scheme_kind, is_multi, is_implicit, name_there, members, is_member, first_name, carries, goes_to_second, is_iterated};
+ghost use Rattle.config_rules.specs.Members.{scheme_kind, is_multi, is_implicit, name_there, members, is_member, first_name, exchanges_data, goes_to_second, is_iterated};
 
 use cpl_config::{ExchangeEntry, KindWord, SchemeTable};
 use cpl_plan::{Kind, SchemeKind, exchange_kind};
@@ -141,8 +141,8 @@ fn first_of(names: &[Name]) -> &str
 }
 
 /// Whether some exchange of a scheme carries the data.
-pub fn carries(table: &SchemeTable, data_name: &str) -> bool
-    ensures { result ≡ carries table.now data_name.now }
+pub fn exchanges_data(table: &SchemeTable, data_name: &str) -> bool
+    ensures { result ≡ exchanges_data table.now data_name.now }
 {
     'entries: for entry in table.exchange.as_slice() {
         if entry.data_name.as_str() == data_name {
@@ -152,7 +152,8 @@ pub fn carries(table: &SchemeTable, data_name: &str) -> bool
     false
 }
 
-fn goes_to_second(table: &SchemeTable, entry: &ExchangeEntry) -> bool
+/// Whether an exchange of a scheme goes to its second.
+pub fn goes_to_second(table: &SchemeTable, entry: &ExchangeEntry) -> bool
     ensures { result ≡ goes_to_second table.now entry.now }
 {
     match &table.second {

@@ -2,15 +2,18 @@
 #![tactic(auto)]
 
 mod breaks;
-pub mod check;
-pub mod circles;
-pub mod exchanges;
-pub mod groups;
-pub mod relaxed;
-pub mod rules;
-pub mod schemes;
+mod check;
+mod circles;
+mod exchanges;
+mod groups;
+pub mod laws;
+mod relaxed;
+mod rules;
+mod schemes;
 #[cfg(test)]
 mod tests;
+mod windows;
 
 pub use check::check_config;
+pub use laws::rules_are_numbered_in_order;
 pub use rules::ConfigRule;

@@ -4,7 +4,7 @@ ghost use Rattle.std.specs.List.{list_any};
 ghost use Rattle.mesh_rules.specs.Spots.{held_of};
 ghost use Rattle.config_rules.specs.SchemeRules.{is_uncarried, relaxes, is_wrongly_accelerated, components_by, components, components_of, is_accelerated, is_wide};
 
-use crate::groups::{carries, is_implicit, is_iterated};
+use crate::groups::{exchanges_data, is_implicit, is_iterated};
 use cpl_config::{AccelEntry, Config, DataKind, ExchangeEntry, SchemeTable};
 use fixed_num::Name;
 use mesh_rules::At;
@@ -18,7 +18,7 @@ pub fn is_uncarried(held: At) -> bool
     ensures { result ≡ is_uncarried (held_of held.entry) }
 {
     match held {
-        At::Measure(table, entry) => !carries(table, entry.data_name.as_str()),
+        At::Measure(table, entry) => !exchanges_data(table, entry.data_name.as_str()),
         _ => false,
     }
 }

@@ -6,7 +6,7 @@ ghost use Rattle.config_rules.specs.ConfigRules.{number_of_rule};
 pub enum ConfigRule {
     /// A name is not declared.
     Undeclared,
-    /// The end of the simulation is not given in exactly one way, or is too far off.
+    /// The end of the simulation is not given as its windows ask, or is too far off.
     NoEnd,
     /// A mesh has not exactly one provider.
     NoProvider,
@@ -49,6 +49,11 @@ pub enum ConfigRule {
     WrongAcceleration,
     /// An acceleration has more than 20 components a vertex.
     WideAcceleration,
+    /// The first participant's steps are the windows, and the schemes are not one serial-explicit
+    /// scheme with an exchange from its first to its second.
+    WrongWindows,
+    /// An action sums nothing, or what it may not.
+    WrongAction,
 }
 
 impl ConfigRule {
@@ -79,6 +84,8 @@ impl ConfigRule {
             ConfigRule::WrongIterations => 28,
             ConfigRule::WrongAcceleration => 29,
             ConfigRule::WideAcceleration => 30,
+            ConfigRule::WrongWindows => 33,
+            ConfigRule::WrongAction => 35,
         }
     }
 }

@@ -1,15 +1,18 @@
 //! Configurations with one change or a few, and the first rule that each breaks, where.
 mod accepted;
+mod actions;
 mod heat;
 mod meshes;
 mod order;
 mod repeated;
 mod schemes;
 mod wide;
+mod windows;
 
 use crate::check_config;
 use cpl_config::{ConfigErr, read_config};
 use std::alloc::{AllocError, Global};
+use std::process::Abort;
 use std::test::Fail;
 
 /// Two participants that read what the other writes. W is written by nobody.
@@ -151,10 +154,14 @@ impl Base {
     }
 }
 
-/// What the check tells of a configuration: its first broken rule and place, or that it is accepted.
-fn told(alloc: Global, text: &str) -> Result<String, Fail> {
+fn read_and_check(alloc: Global, text: &str) -> Result<(), ConfigErr> {
     let config = read_config(alloc, text.as_bytes())?;
-    match check_config(alloc, &config) {
+    check_config(alloc, &config)
+}
+
+/// What is told of a configuration: its first broken rule and place, or that it is accepted.
+fn told(alloc: Global, text: &str) -> Result<String, Fail> {
+    match read_and_check(alloc, text) {
         Ok(()) => Ok(String::from_str(alloc, "accepted")?),
         Err(ConfigErr::Refused(refusal)) => {
             let rule = refusal.rule;
@@ -165,9 +172,22 @@ fn told(alloc: Global, text: &str) -> Result<String, Fail> {
     }
 }
 
-/// What it tells of one of these with one text in place of the first of another.
-fn told_with(alloc: Global, base: Base, from: &str, to: &str) -> Result<String, Fail> {
+/// Tries the changes of a table, `text -> text in its place => what is told`, with lines of dashes
+/// between them, each in place of the first such text of a configuration.
+fn try_changes(rt: &impl Abort, alloc: Global, base: &str, changes: &str) -> Result<(), Fail> {
+    for change in changes.split("\n---\n") {
+        let (from, rest) = change
+            .split_once(" -> ")
+            .ok_or("a change without an arrow")?;
+        let (to, wanted) = rest.split_once(" => ").ok_or("a change without an answer")?;
+        let changed = base.replacen(alloc, from, to, 1)?;
+        assert_eq!(rt; told(alloc, changed.as_str())?.as_str(), wanted, "of {to}");
+    }
+    Ok(())
+}
+
+/// Tries the changes of one of these.
+fn try_base(rt: &impl Abort, alloc: Global, base: Base, changes: &str) -> Result<(), Fail> {
     let text = base.text(alloc)?;
-    let changed = text.as_str().replacen(alloc, from, to, 1)?;
-    told(alloc, changed.as_str())
+    try_changes(rt, alloc, text.as_str(), changes)
 }

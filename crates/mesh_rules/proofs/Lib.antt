@@ -1,1 +1,4 @@
 pub mod OneTables
+pub mod PlaceOrders
+pub mod RisingPlaces
+pub mod SamePlaces

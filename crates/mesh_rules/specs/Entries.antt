@@ -11,6 +11,7 @@ use Rattle.cpl_config.specs.declared.config.ReceivesEntry.{ReceivesEntry}
 use Rattle.cpl_config.specs.declared.config.DataEntry.{DataEntry}
 use Rattle.cpl_config.specs.declared.config.MapEntry.{MapEntry}
 use Rattle.cpl_config.specs.declared.config.WatchEntry.{WatchEntry}
+use Rattle.cpl_config.specs.declared.config.ActionEntry.{ActionEntry}
 use Rattle.cpl_config.specs.declared.config.SchemeTable.{SchemeTable}
 use Rattle.cpl_config.specs.declared.config.ExchangeEntry.{ExchangeEntry}
 use Rattle.cpl_config.specs.declared.config.MeasureEntry.{MeasureEntry}
@@ -27,6 +28,7 @@ pub data Held : Type 0 where
   read : PartTable → List DataEntry → DataEntry → Held
   mapped : PartTable → List MapEntry → MapEntry → Held
   watched : PartTable → WatchEntry → Held
+  acted : PartTable → List ActionEntry → ActionEntry → Held
   scheme : List SchemeTable → SchemeTable → Held
   exchanged : SchemeTable → ExchangeEntry → Held
   measured : SchemeTable → MeasureEntry → Held
@@ -63,6 +65,9 @@ mapped_entries p table = each (λ n before entry. at (P.Map p n) (mapped table b
 abbrev pub watched_entries : ℕ → PartTable → List Entry
 watched_entries p table = each (λ n before entry. at (P.Watch p n) (watched table entry)) table.watch
 
+abbrev pub acted_entries : ℕ → PartTable → List Entry
+acted_entries p table = each (λ n before entry. at (P.Action p n) (acted table before entry)) table.action
+
 -- a participant's table, and the entries in it
 abbrev pub entries_of_participant : ℕ → PartTable → List Entry
 entries_of_participant p table =
@@ -72,6 +77,7 @@ entries_of_participant p table =
     ++ read_entries p table
     ++ mapped_entries p table
     ++ watched_entries p table
+    ++ acted_entries p table
 
 -- the entries of each list of a scheme's table
 abbrev pub exchanged_entries : ℕ → SchemeTable → List Entry

@@ -2,4 +2,5 @@ pub mod Entries
 pub mod Spots
 pub mod Named
 pub mod MeshRules
+pub mod ActionRules
 pub mod OneTable

@@ -7,14 +7,17 @@ use Rattle.std.specs.Str.{bytes_eq}
 use Rattle.std.specs.Ordering.{int_eq}
 use Rattle.cpl_config.specs.declared.kind_words.Direction.{Direction}
 use Rattle.cpl_config.specs.declared.kind_words.Direction.TheVariants.{Read, Write}
+use Rattle.cpl_config.specs.declared.kind_words.WindowWord.{WindowWord}
+use Rattle.cpl_config.specs.declared.kind_words.WindowWord.TheVariants.{Fixed, FirstParticipant}
 use Rattle.cpl_config.specs.declared.config.Config.{Config}
 use Rattle.cpl_config.specs.declared.config.PartTable.{PartTable}
 use Rattle.cpl_config.specs.declared.config.DataEntry.{DataEntry}
 use Rattle.cpl_config.specs.declared.config.MapEntry.{MapEntry}
 use Rattle.cpl_config.specs.declared.config.WatchEntry.{WatchEntry}
+use Rattle.cpl_config.specs.declared.config.ActionEntry.{ActionEntry}
 use Rattle.cpl_config.specs.declared.config.SchemeTable.{SchemeTable}
 use Rattle.cpl_config.specs.declared.config.ExchangeEntry.{ExchangeEntry}
-use Rattle.mesh_rules.specs.Entries.{Held, whole, mesh, participant, received, written, read, mapped, watched, scheme, exchanged, measured, accelerated, Entry}
+use Rattle.mesh_rules.specs.Entries.{Held, whole, mesh, participant, received, written, read, mapped, watched, acted, scheme, exchanged, measured, accelerated, Entry}
 use Rattle.mesh_rules.specs.Named.{is_data, is_mesh, is_participant, carries, dimensions_of, provides, receives, holds_of}
 
 -- some name of the list is not declared
@@ -42,6 +45,11 @@ exchange_names_nothing config entry =
     (not (is_data config entry.data_name) || not (is_mesh config entry.mesh))
     || (not (is_participant config entry.from) || not (is_participant config entry.to))
 
+-- a name of an action is not declared
+abbrev pub action_names_nothing : Config → ActionEntry → Bool
+action_names_nothing config entry =
+    not (is_mesh config entry.mesh) || (has_undeclared (is_data config) entry.sources || not (is_data config entry.target))
+
 -- a name is not declared
 abbrev pub names_nothing : Config → Held → Bool
 names_nothing config (mesh table) = has_undeclared (is_data config) table.data_list
@@ -51,6 +59,7 @@ names_nothing config (written _ entry) = not (is_data config entry.data_name) ||
 names_nothing config (read _ _ entry) = not (is_data config entry.data_name) || not (is_mesh config entry.mesh)
 names_nothing config (mapped _ _ entry) = not (is_mesh config entry.from) || not (is_mesh config entry.to)
 names_nothing config (watched _ entry) = not (is_mesh config entry.mesh)
+names_nothing config (acted _ _ entry) = action_names_nothing config entry
 names_nothing config (scheme _ table) = scheme_names_nothing config table
 names_nothing config (exchanged _ entry) = exchange_names_nothing config entry
 names_nothing config (measured _ entry) = not (is_data config entry.data_name)
@@ -61,10 +70,14 @@ names_nothing config _ = false
 abbrev pub is_too_far : Config → Bool
 is_too_far config = option_map_or (λ time. nat_lt (10 ^ 6 * unsigned_abs config.window) (unsigned_abs time)) config.max_time false
 
--- the end is not given in exactly one way, or there are more than a million windows
+-- with windows of one length: the end is not given in exactly one way, or there are more than a million windows; with those of the first participant's steps: no number of windows is given
+abbrev pub lacks_end : Config → WindowWord → Bool
+lacks_end config Fixed = beq (is_some config.max_time) (is_some config.max_windows) || is_too_far config
+lacks_end config FirstParticipant = not (is_some config.max_windows)
+
+-- the end is not given as the windows ask
 abbrev pub has_no_end : Config → Held → Bool
-has_no_end config whole =
-    beq (is_some config.max_time) (is_some config.max_windows) || is_too_far config
+has_no_end config whole = lacks_end config config.window_method
 has_no_end config _ = false
 
 -- a mesh has not exactly one provider

@@ -2,11 +2,11 @@
 ghost use Rattle.std.specs.Prelude.{◌≡◌, not, ◌||◌};
 ghost use Rattle.mesh_rules.specs.Spots.{held_of};
 ghost use Rattle.mesh_rules.specs.Named.{is_data, is_mesh, is_participant, is_declared};
-ghost use Rattle.mesh_rules.specs.MeshRules.{names_nothing, scheme_names_nothing, exchange_names_nothing, has_undeclared, is_undeclared, are_undeclared};
+ghost use Rattle.mesh_rules.specs.MeshRules.{names_nothing, scheme_names_nothing, exchange_names_nothing, action_names_nothing, has_undeclared, is_undeclared, are_undeclared};
 
 use crate::entries::At;
 use crate::named::{NameOf, is_data, is_declared, is_mesh, is_participant};
-use cpl_config::{Config, ExchangeEntry, SchemeTable};
+use cpl_config::{ActionEntry, Config, ExchangeEntry, SchemeTable};
 use fixed_num::{Items, Name};
 
 /// Whether an entry has a name that is not declared: of data, of a mesh or of a participant, by
@@ -24,6 +24,7 @@ pub fn names_nothing(config: &Config, held: At) -> bool
         At::Read(_, _, entry) => lacks_data_or_mesh(config, &entry.data_name, &entry.mesh),
         At::Map(_, _, entry) => lacks_mesh(config, &entry.from) || lacks_mesh(config, &entry.to),
         At::Watch(_, entry) => lacks_mesh(config, &entry.mesh),
+        At::Action(_, _, entry) => action_names_nothing(config, entry),
         At::Scheme(_, table) => scheme_names_nothing(config, table),
         At::Exchange(_, entry) => exchange_names_nothing(config, entry),
         At::Measure(_, entry) => lacks_data(config, &entry.data_name),
@@ -48,6 +49,14 @@ fn exchange_names_nothing(config: &Config, entry: &ExchangeEntry) -> bool
 {
     lacks_data_or_mesh(config, &entry.data_name, &entry.mesh)
         || (lacks_participant(config, &entry.from) || lacks_participant(config, &entry.to))
+}
+
+fn action_names_nothing(config: &Config, entry: &ActionEntry) -> bool
+    ensures { result ≡ action_names_nothing config.now entry.now }
+{
+    lacks_mesh(config, &entry.mesh)
+        || (has_undeclared(config, NameOf::Data, entry.sources.as_slice())
+            || lacks_data(config, &entry.target))
 }
 
 fn lacks_data_or_mesh(config: &Config, data_name: &Name, mesh: &Name) -> bool

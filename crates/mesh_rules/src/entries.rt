@@ -1,11 +1,11 @@
 //! The entries of a configuration, in the order of their places.
 ghost use Rattle.std.specs.Prelude.{◌≡◌, ◌++◌, map, option_map, IfOk, OnOk};
-ghost use Rattle.mesh_rules.specs.Entries.{at, received_entries, written_entries, read_entries, mapped_entries, watched_entries, entries_of_participant, exchanged_entries, measured_entries, accelerated_entries, entries_of_scheme, data_entries, mesh_entries, participant_entries, scheme_entries, entries_of};
+ghost use Rattle.mesh_rules.specs.Entries.{at, received_entries, written_entries, read_entries, mapped_entries, watched_entries, acted_entries, entries_of_participant, exchanged_entries, measured_entries, accelerated_entries, entries_of_scheme, data_entries, mesh_entries, participant_entries, scheme_entries, entries_of};
 ghost use Rattle.mesh_rules.specs.Spots.{held_of, entry_of};
 
 use cpl_config::{
-    AccelEntry, Config, DataEntry, DataTable, ExchangeEntry, MapEntry, MeasureEntry, MeshTable,
-    PartTable, ReceivesEntry, SchemeTable, WatchEntry,
+    AccelEntry, ActionEntry, Config, DataEntry, DataTable, ExchangeEntry, MapEntry, MeasureEntry,
+    MeshTable, PartTable, ReceivesEntry, SchemeTable, WatchEntry,
 };
 use cpl_tables::{Place, number_at};
 use fixed_num::Memory;
@@ -24,6 +24,7 @@ pub enum At<'a> {
     Read(&'a PartTable, &'a [DataEntry], &'a DataEntry),
     Map(&'a PartTable, &'a [MapEntry], &'a MapEntry),
     Watch(&'a PartTable, &'a WatchEntry),
+    Action(&'a PartTable, &'a [ActionEntry], &'a ActionEntry),
     Scheme(&'a [SchemeTable], &'a SchemeTable),
     Exchange(&'a SchemeTable, &'a ExchangeEntry),
     Measure(&'a SchemeTable, &'a MeasureEntry),
@@ -32,15 +33,15 @@ pub enum At<'a> {
 
 /// An entry of a configuration, with its place.
 #[derive(Clone, Copy)]
-pub struct Spot<'a> {
+pub struct EntrySpot<'a> {
     pub place: Place,
     pub at: At<'a>,
 }
 
 /// The entries of a configuration, in the order of their places: its own table, the data, the
-/// meshes, each participant with what it receives, writes, reads, maps and watches, and each scheme
-/// with its exchanges, measures and acceleration. Takes linear time.
-pub fn entries(alloc: Global, config: &Config) -> Result<Vec<Spot<'_>>, Memory>
+/// meshes, each participant with what it receives, writes, reads, maps and watches and with its
+/// actions, and each scheme with its exchanges, measures and acceleration. Takes linear time.
+pub fn entries(alloc: Global, config: &Config) -> Result<Vec<EntrySpot<'_>>, Memory>
     ensures { IfOk result (λ spots. map entry_of spots.items ≡ entries_of config.now) }
 {
     let mut spots = Vec::new(alloc);
@@ -53,15 +54,15 @@ pub fn entries(alloc: Global, config: &Config) -> Result<Vec<Spot<'_>>, Memory>
 }
 
 /// Adds an entry.
-fn push_at<'a>(place: Place, held: At<'a>, to: &mut Vec<Spot<'a>>) -> Result<(), Memory>
+fn push_at<'a>(place: Place, held: At<'a>, to: &mut Vec<EntrySpot<'a>>) -> Result<(), Memory>
     ensures { OnOk result (map entry_of to.new.items ≡ map entry_of to.old.items ++ at place (held_of held.entry)) }
 {
-    to.push(Spot { place, at: held })?;
+    to.push(EntrySpot { place, at: held })?;
     Ok(())
 }
 
 /// Adds the data.
-fn push_data<'a>(config: &'a Config, to: &mut Vec<Spot<'a>>) -> Result<(), Memory>
+fn push_data<'a>(config: &'a Config, to: &mut Vec<EntrySpot<'a>>) -> Result<(), Memory>
     ensures { OnOk result (map entry_of to.new.items ≡ map entry_of to.old.items ++ data_entries config.now) }
 {
     let items = config.data_list.as_slice();
@@ -72,7 +73,7 @@ fn push_data<'a>(config: &'a Config, to: &mut Vec<Spot<'a>>) -> Result<(), Memor
 }
 
 /// Adds the meshes.
-fn push_meshes<'a>(config: &'a Config, to: &mut Vec<Spot<'a>>) -> Result<(), Memory>
+fn push_meshes<'a>(config: &'a Config, to: &mut Vec<EntrySpot<'a>>) -> Result<(), Memory>
     ensures { OnOk result (map entry_of to.new.items ≡ map entry_of to.old.items ++ mesh_entries config.now) }
 {
     let items = config.mesh.as_slice();
@@ -83,7 +84,7 @@ fn push_meshes<'a>(config: &'a Config, to: &mut Vec<Spot<'a>>) -> Result<(), Mem
 }
 
 /// Adds the participants, each followed by the entries in it.
-fn push_participants<'a>(config: &'a Config, to: &mut Vec<Spot<'a>>) -> Result<(), Memory>
+fn push_participants<'a>(config: &'a Config, to: &mut Vec<EntrySpot<'a>>) -> Result<(), Memory>
     ensures { OnOk result (map entry_of to.new.items ≡ map entry_of to.old.items ++ participant_entries config.now) }
 {
     let items = config.participant.as_slice();
@@ -94,7 +95,7 @@ fn push_participants<'a>(config: &'a Config, to: &mut Vec<Spot<'a>>) -> Result<(
 }
 
 /// Adds the schemes, each followed by the entries in it.
-fn push_schemes<'a>(config: &'a Config, to: &mut Vec<Spot<'a>>) -> Result<(), Memory>
+fn push_schemes<'a>(config: &'a Config, to: &mut Vec<EntrySpot<'a>>) -> Result<(), Memory>
     ensures { OnOk result (map entry_of to.new.items ≡ map entry_of to.old.items ++ scheme_entries config.now) }
 {
     let items = config.scheme.as_slice();
@@ -108,7 +109,7 @@ fn push_schemes<'a>(config: &'a Config, to: &mut Vec<Spot<'a>>) -> Result<(), Me
 fn push_participant<'a>(
     part: u32,
     table: &'a PartTable,
-    to: &mut Vec<Spot<'a>>,
+    to: &mut Vec<EntrySpot<'a>>,
 ) -> Result<(), Memory>
     ensures { OnOk result (map entry_of to.new.items ≡ map entry_of to.old.items ++ entries_of_participant part table.now) }
 {
@@ -117,11 +118,16 @@ fn push_participant<'a>(
     push_written(part, table, to)?;
     push_read(part, table, to)?;
     push_mapped(part, table, to)?;
-    push_watched(part, table, to)
+    push_watched(part, table, to)?;
+    push_acted(part, table, to)
 }
 
 /// Adds the meshes that a participant receives.
-fn push_received<'a>(part: u32, table: &'a PartTable, to: &mut Vec<Spot<'a>>) -> Result<(), Memory>
+fn push_received<'a>(
+    part: u32,
+    table: &'a PartTable,
+    to: &mut Vec<EntrySpot<'a>>,
+) -> Result<(), Memory>
     ensures { OnOk result (map entry_of to.new.items ≡ map entry_of to.old.items ++ received_entries part table.now) }
 {
     let items = table.receives.as_slice();
@@ -133,7 +139,11 @@ fn push_received<'a>(part: u32, table: &'a PartTable, to: &mut Vec<Spot<'a>>) ->
 }
 
 /// Adds what a participant writes.
-fn push_written<'a>(part: u32, table: &'a PartTable, to: &mut Vec<Spot<'a>>) -> Result<(), Memory>
+fn push_written<'a>(
+    part: u32,
+    table: &'a PartTable,
+    to: &mut Vec<EntrySpot<'a>>,
+) -> Result<(), Memory>
     ensures { OnOk result (map entry_of to.new.items ≡ map entry_of to.old.items ++ written_entries part table.now) }
 {
     let items = table.write.as_slice();
@@ -145,7 +155,7 @@ fn push_written<'a>(part: u32, table: &'a PartTable, to: &mut Vec<Spot<'a>>) -> 
 }
 
 /// Adds what a participant reads.
-fn push_read<'a>(part: u32, table: &'a PartTable, to: &mut Vec<Spot<'a>>) -> Result<(), Memory>
+fn push_read<'a>(part: u32, table: &'a PartTable, to: &mut Vec<EntrySpot<'a>>) -> Result<(), Memory>
     ensures { OnOk result (map entry_of to.new.items ≡ map entry_of to.old.items ++ read_entries part table.now) }
 {
     let items = table.read.as_slice();
@@ -157,7 +167,11 @@ fn push_read<'a>(part: u32, table: &'a PartTable, to: &mut Vec<Spot<'a>>) -> Res
 }
 
 /// Adds the mappings of a participant.
-fn push_mapped<'a>(part: u32, table: &'a PartTable, to: &mut Vec<Spot<'a>>) -> Result<(), Memory>
+fn push_mapped<'a>(
+    part: u32,
+    table: &'a PartTable,
+    to: &mut Vec<EntrySpot<'a>>,
+) -> Result<(), Memory>
     ensures { OnOk result (map entry_of to.new.items ≡ map entry_of to.old.items ++ mapped_entries part table.now) }
 {
     let items = table.map.as_slice();
@@ -169,7 +183,11 @@ fn push_mapped<'a>(part: u32, table: &'a PartTable, to: &mut Vec<Spot<'a>>) -> R
 }
 
 /// Adds the watch-points of a participant.
-fn push_watched<'a>(part: u32, table: &'a PartTable, to: &mut Vec<Spot<'a>>) -> Result<(), Memory>
+fn push_watched<'a>(
+    part: u32,
+    table: &'a PartTable,
+    to: &mut Vec<EntrySpot<'a>>,
+) -> Result<(), Memory>
     ensures { OnOk result (map entry_of to.new.items ≡ map entry_of to.old.items ++ watched_entries part table.now) }
 {
     let items = table.watch.as_slice();
@@ -180,12 +198,28 @@ fn push_watched<'a>(part: u32, table: &'a PartTable, to: &mut Vec<Spot<'a>>) -> 
     Ok(())
 }
 
+/// Adds the actions of a participant.
+fn push_acted<'a>(
+    part: u32,
+    table: &'a PartTable,
+    to: &mut Vec<EntrySpot<'a>>,
+) -> Result<(), Memory>
+    ensures { OnOk result (map entry_of to.new.items ≡ map entry_of to.old.items ++ acted_entries part table.now) }
+{
+    let items = table.action.as_slice();
+    'items: for (index, item) in items.iter().enumerate() {
+        let place = Place::Action(part, number_at(index));
+        push_at(place, At::Action(table, &items[..index], item), to)?;
+    }
+    Ok(())
+}
+
 /// Adds a scheme, after the earlier ones, and the entries in it.
 fn push_scheme<'a>(
     scheme: u32,
     earlier: &'a [SchemeTable],
     table: &'a SchemeTable,
-    to: &mut Vec<Spot<'a>>,
+    to: &mut Vec<EntrySpot<'a>>,
 ) -> Result<(), Memory>
     ensures { OnOk result (map entry_of to.new.items ≡ map entry_of to.old.items ++ entries_of_scheme scheme earlier.now table.now) }
 {
@@ -199,7 +233,7 @@ fn push_scheme<'a>(
 fn push_exchanged<'a>(
     scheme: u32,
     table: &'a SchemeTable,
-    to: &mut Vec<Spot<'a>>,
+    to: &mut Vec<EntrySpot<'a>>,
 ) -> Result<(), Memory>
     ensures { OnOk result (map entry_of to.new.items ≡ map entry_of to.old.items ++ exchanged_entries scheme table.now) }
 {
@@ -215,7 +249,7 @@ fn push_exchanged<'a>(
 fn push_measured<'a>(
     scheme: u32,
     table: &'a SchemeTable,
-    to: &mut Vec<Spot<'a>>,
+    to: &mut Vec<EntrySpot<'a>>,
 ) -> Result<(), Memory>
     ensures { OnOk result (map entry_of to.new.items ≡ map entry_of to.old.items ++ measured_entries scheme table.now) }
 {
@@ -231,7 +265,7 @@ fn push_measured<'a>(
 fn push_accelerated<'a>(
     scheme: u32,
     table: &'a SchemeTable,
-    to: &mut Vec<Spot<'a>>,
+    to: &mut Vec<EntrySpot<'a>>,
 ) -> Result<(), Memory>
     ensures { OnOk result (map entry_of to.new.items ≡ map entry_of to.old.items ++ accelerated_entries scheme table.now (table.now).acceleration) }
 {

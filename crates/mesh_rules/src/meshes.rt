@@ -6,7 +6,7 @@ ghost use Rattle.mesh_rules.specs.Spots.{held_of, entry_of};
 ghost use Rattle.mesh_rules.specs.Named.{provides, holds_of};
 ghost use Rattle.mesh_rules.specs.MeshRules.{has_no_provider, is_wrongly_received, is_off_mesh, is_written_twice, writes_data};
 
-use crate::entries::{At, Spot};
+use crate::entries::{At, EntrySpot};
 use crate::named::{carries, participant_called, provides};
 use cpl_config::{Config, PartTable, ReceivesEntry};
 
@@ -87,7 +87,7 @@ pub fn is_off_mesh(config: &Config, held: At) -> bool
 
 /// Whether the data of a write entry stand in one of the entries before it, which are all those of
 /// the configuration before it.
-pub fn is_written_twice(before: &[Spot], held: At) -> bool
+pub fn is_written_twice(before: &[EntrySpot], held: At) -> bool
     ensures { result ≡ is_written_twice (map entry_of before.now) (held_of held.entry) }
 {
     match held {
@@ -97,7 +97,7 @@ pub fn is_written_twice(before: &[Spot], held: At) -> bool
 }
 
 /// Whether some of the entries writes the data.
-fn is_written(entries: &[Spot], data_name: &str) -> bool
+fn is_written(entries: &[EntrySpot], data_name: &str) -> bool
     ensures { result ≡ list_any (λ other. writes_data data_name.now other.held) (map entry_of entries.now) }
 {
     'entries: for spot in entries {

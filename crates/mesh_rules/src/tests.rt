@@ -2,13 +2,14 @@
 mod order;
 mod rules;
 
-use crate::entries::{Spot, entries};
+use crate::entries::{EntrySpot, entries};
 use crate::{
     At, has_no_end, has_no_provider, is_off_mesh, is_unmapped, is_written_twice, is_wrongly_mapped,
     is_wrongly_received, names_nothing,
 };
 use cpl_config::{Config, read_config};
 use std::alloc::{AllocError, Global};
+use std::process::Abort;
 use std::test::Fail;
 
 const BASE: &str = r#"format = 1
@@ -71,7 +72,7 @@ fn changed(alloc: Global, from: &str, to: &str) -> Result<String, AllocError> {
 }
 
 /// Whether an entry breaks the rule of this number.
-fn breaks(rule: u8, config: &Config, before: &[Spot], held: At) -> bool {
+fn breaks(rule: u8, config: &Config, before: &[EntrySpot], held: At) -> bool {
     match rule {
         9 => names_nothing(config, held),
         10 => has_no_end(config, held),
@@ -85,7 +86,12 @@ fn breaks(rule: u8, config: &Config, before: &[Spot], held: At) -> bool {
 }
 
 /// The places at which a rule is broken.
-fn broken(alloc: Global, rule: u8, config: &Config, spots: &[Spot]) -> Result<String, AllocError> {
+fn broken(
+    alloc: Global,
+    rule: u8,
+    config: &Config,
+    spots: &[EntrySpot],
+) -> Result<String, AllocError> {
     let mut text = String::new(alloc);
     for (index, spot) in spots.iter().enumerate() {
         if breaks(rule, config, &spots[..index], spot.at) {
@@ -96,7 +102,7 @@ fn broken(alloc: Global, rule: u8, config: &Config, spots: &[Spot]) -> Result<St
     Ok(text)
 }
 
-/// The rules that a configuration breaks, each with all its places.
+/// The rules that a configuration breaks, each with all its places, or that it breaks none.
 fn told(alloc: Global, text: &str) -> Result<String, Fail> {
     let config = read_config(alloc, text.as_bytes())?;
     let spots = entries(alloc, &config)?;
@@ -104,5 +110,22 @@ fn told(alloc: Global, text: &str) -> Result<String, Fail> {
     for rule in 9..17 {
         told.push_str(broken(alloc, rule, &config, &spots)?.as_str())?;
     }
+    if told.as_str().is_empty() {
+        told.push_str("nothing")?;
+    }
     Ok(told)
+}
+
+/// Tries the changes of a table, `text -> text in its place => what is told`, with lines of dashes
+/// between them.
+fn try_changes(rt: &impl Abort, alloc: Global, changes: &str) -> Result<(), Fail> {
+    for change in changes.split("\n---\n") {
+        let (from, rest) = change
+            .split_once(" -> ")
+            .ok_or("a change without an arrow")?;
+        let (to, wanted) = rest.split_once(" => ").ok_or("a change without an answer")?;
+        let text = changed(alloc, from, to)?;
+        assert_eq!(rt; told(alloc, text.as_str())?.as_str(), wanted, "of {to}");
+    }
+    Ok(())
 }

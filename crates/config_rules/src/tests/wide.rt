@@ -94,3 +94,20 @@ fn twenty_components(rt: HostRuntime) -> Result<(), Fail> {
     }
     Ok(())
 }
+
+const FIRST_PARTICIPANT: &str =
+    "format = 2\nwindow-method = \"first-participant\"\nmax-windows = 5\n";
+
+/// Windows that the scheme's kind cannot have are told after too many components, at whatever place.
+#[test]
+fn components_before_windows(rt: HostRuntime) -> Result<(), Fail> {
+    let alloc = rt.alloc();
+    for (count, wanted) in [(20, "C33 Scheme(1)"), (21, "C30 Acceleration(1)")] {
+        let text = wide(alloc, "scalar", "2", count)?;
+        let text = text
+            .as_str()
+            .replacen(alloc, "format = 1\n", FIRST_PARTICIPANT, 1)?;
+        assert_eq!(rt; told(alloc, text.as_str())?.as_str(), wanted, "of {count}");
+    }
+    Ok(())
+}

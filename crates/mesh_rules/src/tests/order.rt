@@ -1,5 +1,5 @@
 use super::BASE;
-use crate::entries::{Spot, entries};
+use crate::entries::{EntrySpot, entries};
 use cpl_config::read_config;
 use std::alloc::{AllocError, Global};
 use std::test::Fail;
@@ -9,7 +9,7 @@ const PLACES: &str = "Config;DataTable(1);DataTable(2);MeshTable(1);MeshTable(2)
     Participant(2);Receives(2, 1);Write(2, 1);Read(2, 1);Map(2, 1);Watch(2, 1);\
     Scheme(1);Exchange(1, 1);Exchange(1, 2);Measure(1, 1);Acceleration(1);";
 
-fn places(alloc: Global, spots: &[Spot]) -> Result<String, AllocError> {
+fn places(alloc: Global, spots: &[EntrySpot]) -> Result<String, AllocError> {
     let mut text = String::new(alloc);
     for spot in spots {
         let place = spot.place;

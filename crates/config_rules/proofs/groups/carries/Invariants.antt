@@ -1,9 +1,0 @@
-use Rattle.std.proofs.Common.{◌≡◌, drop}
-use Rattle.std.specs.List.{list_any}
-use Rattle.std.specs.Str.{bytes_eq}
-use Rattle.config_rules.specs.Members.{carries}
-use Rattle.config_rules.proofs.groups.carries.Given as goal
-
--- an exchange of the rest carries the data where one of the scheme does
-abbrev pub invariant-entries : goal.invariant-entries
-invariant-entries l = list_any (λ entry. bytes_eq entry.data_name l.data_name) (drop l.entry-index l.entry-items) ≡ carries l.table l.data_name
