@@ -1,5 +1,5 @@
 -- Which files may be asked, one after the other.
-use Rattle.std.proofs.Common.{◌≡◌, ℕ, Bool, List, [], ◌∷◌, Option, Some, None, option_map, IsTrue, IsSome, Result, Ok, Err, refl, sym, ap, ◌∙◌, subst}
+use Rattle.std.proofs.Common.{◌≡◌, ℕ, Bool, List, [], ◌∷◌, Option, Some, None, option_map, Result, Ok, Err, refl, sym, ap, ◌∙◌, subst}
 use Rattle.io_edge.specs.FileMap.{FileMap}
 use Rattle.cpl_rules.specs.declared.rules.Refusal.{Refusal}
 use Rattle.cpl_config.specs.declared.config.Config.{Config}

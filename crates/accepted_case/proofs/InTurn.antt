@@ -2,9 +2,6 @@
 use Rattle.std.proofs.Common.{◌≡◌, List, [], ◌∷◌, ◌++◌, Result, Ok, Err, refl, sym, ap, append_assoc}
 use Rattle.std.specs.Result.{result_map_both}
 use Rattle.cpl_rules.specs.declared.rules.Refusal.{Refusal}
-use Rattle.cpl_config.specs.declared.error.ConfigErr.{ConfigErr}
-use Rattle.cpl_config.specs.declared.error.ConfigErr.TheVariants.{Refused, Memory}
-use Rattle.cpl_config.specs.Answers.{Answers}
 use Rattle.case_files.specs.declared.case_file.CaseFile.{CaseFile}
 use Rattle.accepted_case.specs.Acceptance.{and_then_those}
 

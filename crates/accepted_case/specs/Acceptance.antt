@@ -19,7 +19,7 @@ abbrev pub as_a_whole : Result Config Refusal → Result Config Refusal
 as_a_whole (Ok config) = unless_refused (config_refusal config) config
 as_a_whole (Err refusal) = Err refusal
 
--- what the bytes of a configuration's file are, by the rules 1 to 30
+-- what the bytes of a configuration's file are, by the rules 1 to 30, 33 and 35
 abbrev pub config_acceptance : List ℕ → Result Config Refusal
 config_acceptance bytes = as_a_whole (acceptance bytes)
 

@@ -6,6 +6,7 @@ ghost use Rattle.case_files.specs.SoundCase.{IsSoundCaseFile};
 ghost use Rattle.config_rules.specs.ConfigRules.{IsAccepted};
 ghost use Rattle.case_rules.specs.CaseRules.{AreAccepted};
 ghost use Rattle.accepted_case.specs.Acceptance.{each_read, cases_acceptance};
+ghost use Rattle.accepted_case.specs.IsAcceptedCase.{AreReadCases};
 
 use crate::push::push;
 use case_files::{CaseFile, read_case};
@@ -27,6 +28,7 @@ pub fn accepted_cases(
     requires one_each { length files.now ≡ length (config.now).participant }
     ensures answer { Answers (cases_acceptance config.now files.now) result }
     ensures counted { IfOk result (λ cases. length cases ≡ length files.now) }
+    ensures read { IfOk result (AreReadCases 0) }
     ensures sound { IfOk result (All IsSoundCaseFile) }
     ensures kept { IfOk result (AreAccepted config.now) }
 {

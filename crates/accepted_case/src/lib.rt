@@ -3,6 +3,7 @@
 
 pub mod case_err;
 mod cases;
+pub mod laws;
 pub mod load;
 pub mod parts;
 mod push;
@@ -11,5 +12,6 @@ mod refused;
 mod tests;
 
 pub use case_err::CaseErr;
+pub use laws::an_accepted_case_suits_its_participants;
 pub use load::load_case;
 pub use parts::{AcceptedCase, RefusedCase};

@@ -9,7 +9,7 @@ ghost use Rattle.config_rules.specs.ConfigRules.{IsAccepted};
 ghost use Rattle.accepted_case.specs.Acceptance.{config_acceptance, case_names, after_config, files_acceptance};
 ghost use Rattle.accepted_case.specs.Answers.{AnswersFiles};
 ghost use Rattle.accepted_case.specs.declared.parts.RefusedCase.{RefusedCase};
-ghost use Rattle.accepted_case.specs.IsAcceptedCase.{IsAcceptedCase};
+ghost use Rattle.accepted_case.specs.IsAcceptedCase.{IsReadConfig, IsAcceptedCase};
 ghost use Rattle.accepted_case.specs.Loaded.{cut_files_of};
 ghost use Rattle.accepted_case.specs.MayLoad.{MayLoad, MayLoadNames};
 
@@ -27,10 +27,10 @@ use std::alloc::Global;
 
 /// Loads the configuration of a name and the case files that it names, and accepts or refuses them.
 ///
-/// The order is: load of the configuration; its rules, 1 to 30; loads of the case files in the order
-/// of the participants, where the first failure ends loading; the rules 1 to 8 on each case file in
-/// that order; the rules 31 and 32 on all of them. Each load asks for at most 1,048,576 bytes, so
-/// that one byte more shows a file that is too long.
+/// The order is: load of the configuration; its rules, 1 to 30, 33 and 35; loads of the case files in
+/// the order of the participants, where the first failure ends loading; the rules 1 to 8 on each case
+/// file in that order; the rules 31 and 32 on all of them. Each load asks for at most 1,048,576 bytes,
+/// so that one byte more shows a file that is too long.
 pub fn load_case<F: Files>(
     alloc: Global,
     files: &mut F,
@@ -75,6 +75,7 @@ fn load<F: Files>(alloc: Global, files: &mut F, name: &str) -> Result<Vec<u8>, C
 /// The configuration in the bytes of its file, checked as a whole.
 fn accepted_config(alloc: Global, bytes: &[u8]) -> Result<Config, ConfigErr>
     ensures answer { Answers (config_acceptance bytes.now) result }
+    ensures read { IfOk result IsReadConfig }
     ensures sound { IfOk result IsSoundConfig }
     ensures kept { IfOk result IsAccepted }
 {
@@ -91,6 +92,7 @@ fn load_cases<F: Files>(
     files: &mut F,
     config: Config,
 ) -> Result<AcceptedCase, CaseErr>
+    requires read { IsReadConfig config }
     requires sound { IsSoundConfig config }
     requires kept { IsAccepted config }
     requires may_load { MayLoadNames (F.told files.old) (F.may_ask files.old) (case_names config) }

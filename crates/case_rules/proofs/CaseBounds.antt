@@ -42,9 +42,12 @@ few_points (Some points) line h k = h.few
 few_points None (Some line) h k = within_most 1 10000 line.count k.count
 few_points None None h k = omega arith
 
+pub mesh_few : (mesh : CaseMesh) → IsSoundCaseMesh mesh → vertices_of mesh ≤ 10000
+mesh_few mesh sound = few_points mesh.points mesh.line sound.points sound.line
+
 few_there : (mesh : Option CaseMesh) → IfSome mesh IsSoundCaseMesh → option_map_or vertices_of mesh 0 ≤ 10000
 few_there None h = omega arith
-few_there (Some mesh) h = few_points mesh.points mesh.line h.points h.line
+few_there (Some mesh) h = mesh_few mesh h
 
 pub vertices_few : (case_file : CaseFile) (name : List ℕ) → IsSoundCaseFile case_file → option_map_or vertices_of (case_mesh_called case_file name) 0 ≤ 10000
 vertices_few case_file name sound =

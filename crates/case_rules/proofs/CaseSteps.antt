@@ -1,27 +1,13 @@
--- One rule on cases more, and what a refusal of them tells.
-use Rattle.std.proofs.Common.{◌≡◌, List, Option, Some, None, option_map, All, refl, ap, lit<}
-use Rattle.cpl_tables.specs.declared.places.Place.{Place}
+-- What a refusal of cases tells, and what there is where there is none.
+use Rattle.std.proofs.Common.{◌≡◌, List, Option, Some, None, option_map, All, refl, lit<}
 use Rattle.cpl_rules.specs.declared.rules.Refusal.{Refusal}
-use Rattle.cpl_rules.specs.FirstBroken.{at_or, first_broken, IsUnbroken}
+use Rattle.cpl_rules.specs.FirstBroken.{first_broken, IsUnbroken}
 use Rattle.cpl_rules.proofs.FirstPlaces.{first_broken-none, first_broken-some}
 use Rattle.cpl_config.specs.declared.config.Config.{Config}
 use Rattle.case_files.specs.declared.case_file.CaseFile.{CaseFile}
 use Rattle.case_rules.specs.declared.rules.CaseRule.{CaseRule}
 use Rattle.case_rules.specs.declared.rules.CaseRule.TheVariants.{Unsuited, TooManySteps}
-use Rattle.case_rules.specs.CaseRules.{CaseEntry, case_entries, breaks_case, case_rules, number_of_case_rule, refused_for_case, case_refusal, IsCaseRefused, AreAccepted}
-
--- a rule that is broken is told
-pub told_here : (rule : CaseRule) (found : Option CaseEntry) (later : Option (CaseRule × CaseEntry)) (place : Place) → Some place ≡ option_map (λ at. at.place) found
-    → Some (record { rule = number_of_case_rule rule; place = place }) ≡ option_map refused_for_case (at_or rule found later)
-told_here rule None later place h = cc
-told_here rule (Some at) later place h =
-    let same : place ≡ at.place = cc in
-    ap (λ p. Some (record { rule = number_of_case_rule rule; place = p })) same
-
--- one that is not leaves it to the later rules
-pub told_later : (rule : CaseRule) (found : Option CaseEntry) (later : Option (CaseRule × CaseEntry)) → None ≡ option_map (λ at. at.place) found → at_or rule found later ≡ later
-told_later rule None later h = refl
-told_later rule (Some at) later h = cc
+use Rattle.case_rules.specs.CaseRules.{CaseEntry, case_entries, breaks_case, case_rules, refused_for_case, case_refusal, IsCaseRefused, AreAccepted}
 
 all_kept : (config : Config) (cases : List CaseFile) → All (λ rule. IsUnbroken (breaks_case config rule) (case_entries config cases)) case_rules → AreAccepted config cases
 all_kept config cases h Unsuited = h 0 Unsuited (lit< tt)

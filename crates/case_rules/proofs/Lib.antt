@@ -1,7 +1,10 @@
+pub mod Passing
 pub mod CaseBounds
 pub mod CaseSteps
 pub mod CaseWalks
 pub mod StepCounts
 pub mod Scans
 pub mod SolverCases
+pub mod SuitedMeshes
+pub mod SuitedSolvers
 pub mod AcceptedCases

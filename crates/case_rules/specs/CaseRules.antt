@@ -1,6 +1,6 @@
 -- The rules over the case files of an accepted configuration. The project's own.
-use Rattle.std.specs.Prelude.{◌≡◌, ℕ, ◌+◌, ◌-◌, ◌*◌, ◌/◌, ◌%◌, Bool, true, false, not, ◌&&◌, ◌||◌, ◌==◌, nat_lt, if◌then◌else◌, List, [], ◌∷◌, length, sum_by, find, ℤ, pos, unsigned_abs, Option, Some, None, is_some, is_none, option_map, unwrap_or}
-use Rattle.std.specs.List.{list_all}
+use Rattle.std.specs.Prelude.{◌≡◌, ℕ, ◌+◌, ◌-◌, ◌*◌, ◌/◌, ◌%◌, ◌^◌, Bool, true, false, not, ◌&&◌, ◌||◌, ◌==◌, nat_lt, nat_le, if◌then◌else◌, List, [], ◌∷◌, length, sum_by, find, slice_index_or, ℤ, pos, unsigned_abs, Option, Some, None, is_some, is_none, option_map, unwrap_or}
+use Rattle.std.specs.List.{list_all, list_any}
 use Rattle.std.specs.Option.{option_map_or}
 use Rattle.std.specs.Bool.{beq}
 use Rattle.std.specs.Str.{bytes_eq}
@@ -9,13 +9,15 @@ use Rattle.cpl_tables.specs.declared.places.Place.TheVariants.{Case}
 use Rattle.cpl_tables.specs.Places.{number_at}
 use Rattle.cpl_rules.specs.declared.rules.Refusal.{Refusal}
 use Rattle.cpl_rules.specs.FirstBroken.{first_broken, IsFirstBroken, IsUnbroken}
+use Rattle.cpl_config.specs.declared.kind_words.WindowWord.{WindowWord}
+use Rattle.cpl_config.specs.declared.kind_words.WindowWord.TheVariants.{Fixed, FirstParticipant}
 use Rattle.cpl_config.specs.declared.config.Config.{Config}
 use Rattle.cpl_config.specs.declared.config.PartTable.{PartTable}
 use Rattle.cpl_config.specs.declared.config.DataEntry.{DataEntry}
 use Rattle.cpl_config.specs.SoundConfig.{IsSoundParticipant}
 use Rattle.line_solvers.specs.declared.case.RowParts.{RowParts}
 use Rattle.line_solvers.specs.declared.case.SolverKind.{SolverKind}
-use Rattle.line_solvers.specs.declared.case.SolverKind.TheVariants.{Rows, Rod, Spring}
+use Rattle.line_solvers.specs.declared.case.SolverKind.TheVariants.{Rows, Rod, Spring, Recorded}
 use Rattle.case_files.specs.declared.case_file.CaseFile.{CaseFile}
 use Rattle.case_files.specs.declared.case_file.CaseMesh.{CaseMesh}
 use Rattle.case_files.specs.SoundCase.{IsSoundCaseFile}
@@ -127,18 +129,35 @@ has_right_row size inputs row =
 abbrev pub is_none_or : (wanted count : ℕ) → Bool
 is_none_or wanted count = (count == 0) || (count == wanted)
 
--- what the kind of solver asks of its state of so many components and of its inputs: a row for each, one input for each or none; a spring has as many velocities as positions, and one input for each of these or none
-abbrev pub suits_solver : SolverKind → (size inputs : ℕ) → CaseFile → Bool
-suits_solver Rows size inputs case_file =
+-- component 0 of the state: of the list, or what all are filled with
+abbrev pub first_component : CaseFile → ℤ
+first_component case_file = option_map_or (λ state. slice_index_or state 0 (pos 0)) case_file.state (unwrap_or case_file.fill (pos 0))
+
+-- a whole number, in units, from 0 to this one
+abbrev pub is_whole_to : (most : ℕ) → ℤ → Bool
+is_whole_to most (pos units) = (units % 10 ^ 6 == 0) && nat_le (units / 10 ^ 6) most
+is_whole_to most _ = false
+
+-- the state counts the records that are used, and has a component more for each written value, as each record has one
+abbrev pub suits_records : (size written : ℕ) → CaseFile → Bool
+suits_records size written case_file =
+    (size == 1 + written)
+    && (is_whole_to (length (unwrap_or case_file.records [])) (first_component case_file)
+    && list_all (λ entry. length entry.writes == written) (unwrap_or case_file.records []))
+
+-- what the kind of solver asks of its state of so many components, of what is written and of its inputs: a row for each component; one input for each or none; a spring has as many velocities as positions, and one input for each of these or none; records as above
+abbrev pub suits_solver : SolverKind → (size written inputs : ℕ) → CaseFile → Bool
+suits_solver Rows size written inputs case_file =
     (length (unwrap_or case_file.row []) == size) && list_all (has_right_row size inputs) (unwrap_or case_file.row [])
-suits_solver Rod size inputs case_file = is_none_or size inputs
-suits_solver Spring size inputs case_file = (size % 2 == 0) && is_none_or (size / 2) inputs
+suits_solver Rod size written inputs case_file = is_none_or size inputs
+suits_solver Spring size written inputs case_file = (size % 2 == 0) && is_none_or (size / 2) inputs
+suits_solver Recorded size written inputs case_file = suits_records size written case_file
 
 -- the state is told in one way, and what is written and read suits it and the solver
 abbrev pub suits_values : (written inputs : ℕ) → CaseFile → Bool
 suits_values written inputs case_file =
     has_state case_file
-    && (has_right_out (state_length case_file) written case_file.out && suits_solver case_file.solver (state_length case_file) inputs case_file)
+    && (has_right_out (state_length case_file) written case_file.out && suits_solver case_file.solver (state_length case_file) written inputs case_file)
 
 -- the case suits its participant
 abbrev pub is_suited : Config → PartTable → CaseFile → Bool
@@ -152,14 +171,24 @@ is_unsuited config part case_file = not (is_suited config part case_file)
 abbrev pub steps_in : (window step : ℕ) → ℕ
 steps_in window step = (window + (step - 1)) / step
 
--- a window takes more than 1,024 steps
-abbrev pub takes_too_many_steps : Config → CaseFile → Bool
-takes_too_many_steps config case_file = nat_lt 1024 (steps_in (unsigned_abs config.window) (unsigned_abs case_file.step))
+-- the participant is the first of a scheme
+abbrev pub is_a_first : Config → PartTable → Bool
+is_a_first config part = list_any (λ scheme. option_map_or (bytes_eq part.name) scheme.first false) config.scheme
+
+-- whether each step of the participant makes a window
+abbrev pub makes_windows : WindowWord → Config → PartTable → Bool
+makes_windows Fixed config part = false
+makes_windows FirstParticipant config part = is_a_first config part
+
+-- a window that others make takes more than 1,024 steps
+abbrev pub takes_too_many_steps : Config → PartTable → CaseFile → Bool
+takes_too_many_steps config part case_file =
+    not (makes_windows config.window_method config part) && nat_lt 1024 (steps_in (unsigned_abs config.window) (unsigned_abs case_file.step))
 
 -- the case breaks the rule
 abbrev pub breaks_alone : Config → CaseRule → CaseEntry → Bool
 breaks_alone config Unsuited entry = is_unsuited config entry.part entry.case_file
-breaks_alone config TooManySteps entry = takes_too_many_steps config entry.case_file
+breaks_alone config TooManySteps entry = takes_too_many_steps config entry.part entry.case_file
 
 -- whatever stands before it
 abbrev pub breaks_case : Config → CaseRule → List CaseEntry → CaseEntry → Bool

@@ -1,2 +1,3 @@
 pub mod CaseRules
 pub mod SolverCase
+pub mod SuitedCases

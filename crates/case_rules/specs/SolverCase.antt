@@ -1,11 +1,9 @@
 -- What a case file says of its participant's solver. The project's own.
-use Rattle.std.specs.Prelude.{List, All}
 use Rattle.cpl_config.specs.declared.config.Config.{Config}
 use Rattle.cpl_config.specs.declared.config.PartTable.{PartTable}
 use Rattle.line_solvers.specs.declared.case.CaseParts.{CaseParts}
-use Rattle.line_solvers.specs.CaseSound.{IsSoundCase}
 use Rattle.case_files.specs.declared.case_file.CaseFile.{CaseFile}
-use Rattle.case_rules.specs.CaseRules.{case_entries, read_values, written_values}
+use Rattle.case_rules.specs.CaseRules.{read_values, written_values}
 
 -- its keys for the solver, and how many values the participant reads and writes
 abbrev pub solver_case : Config → PartTable → CaseFile → CaseParts
@@ -20,6 +18,7 @@ solver_case config part case_file =
       out = case_file.out;
       forbid = case_file.forbid;
       row = case_file.row;
+      records = case_file.records;
       alpha = case_file.alpha;
       beta = case_file.beta;
       stiff = case_file.stiff;
@@ -29,7 +28,3 @@ solver_case config part case_file =
       reads = read_values config part case_file;
       writes = written_values config part case_file;
     }
-
--- each case describes a solver that can be made
-abbrev pub AreSolverCases : Config → List CaseFile → Type 0
-AreSolverCases config cases = All (λ entry. IsSoundCase (solver_case config entry.part entry.case_file)) (case_entries config cases)

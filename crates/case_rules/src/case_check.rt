@@ -1,18 +1,17 @@
 //! The first broken rule of the case files of an accepted configuration.
-ghost use Rattle.std.specs.Prelude.{◌≡◌, ◌++◌, ◌∷◌, [], All, length, map, option_map, Err, IfOk, OnOk};
+ghost use Rattle.std.specs.Prelude.{◌≡◌, ◌++◌, ◌∷◌, [], All, length, map, Err, IfOk, OnOk};
 ghost use Rattle.cpl_rules.specs.declared.rules.Refusal.{Refusal};
-ghost use Rattle.cpl_rules.specs.FirstBroken.{first_place, first_broken};
 ghost use Rattle.cpl_config.specs.Acceptance.{unless_refused};
 ghost use Rattle.cpl_config.specs.SoundConfig.{IsSoundConfig, IsSoundParticipant};
 ghost use Rattle.cpl_config.specs.Answers.{Answers};
 ghost use Rattle.case_files.specs.SoundCase.{IsSoundCaseFile};
-ghost use Rattle.case_rules.specs.CaseRules.{entry_of_case, IsSoundEntry, case_at, case_entries, breaks_alone, breaks_case, case_rules, refused_for_case, case_refusal, IsCaseRefused, AreAccepted};
+ghost use Rattle.case_rules.specs.CaseRules.{entry_of_case, IsSoundEntry, case_at, case_entries, breaks_alone, refused_for_case, case_refusal, IsCaseRefused, AreAccepted};
 
 use crate::cases::{is_unsuited, takes_too_many_steps};
 use crate::rules::CaseRule;
 use case_files::CaseFile;
 use cpl_config::{Config, ConfigErr, PartTable};
-use cpl_rules::Refusal;
+use cpl_rules::{Refusal, SpotRules, first_broken};
 use cpl_tables::{Place, number_at};
 use fixed_num::Memory;
 use std::alloc::Global;
@@ -63,7 +62,8 @@ fn refusal_of(alloc: Global, config: &Config, cases: &[CaseFile]) -> Result<Opti
     ensures { IfOk result (λ refusal. refusal ≡ case_refusal config.now cases.now) }
 {
     let spots = case_spots(alloc, config, cases)?;
-    Ok(first_broken(config, &RULES, &spots))
+    let refusal = first_broken(alloc, &RulesOnCases { config }, &RULES, &spots)?;
+    Ok(refusal)
 }
 
 /// The cases with their participants.
@@ -108,35 +108,54 @@ fn push_case<'a>(
     Ok(())
 }
 
-/// The first broken one of some rules, and the place of the first case that breaks it.
-fn first_broken(config: &Config, rules: &[CaseRule], spots: &[CaseSpot]) -> Option<Refusal>
-    requires sound { IsSoundConfig config.now }
-    requires sound_spots { All (λ spot. IsSoundEntry (entry_of_case spot)) spots.now }
-    ensures { result ≡ option_map refused_for_case (first_broken (breaks_case config.now) rules.now (map entry_of_case spots.now)) }
-{
-    'rules: for rule in rules {
-        if let Some(place) = first_place(config, *rule, spots) {
-            return Some(Refusal {
-                rule: rule.number(),
-                place,
-            });
-        }
-    }
-    None
+/// The rules over the case files beside a configuration, tried at each of them.
+#[derive(Clone, Copy)]
+struct RulesOnCases<'a> {
+    config: &'a Config,
 }
 
-/// The place of the first case that breaks a rule.
-fn first_place(config: &Config, rule: CaseRule, spots: &[CaseSpot]) -> Option<Place>
-    requires sound { IsSoundConfig config.now }
-    requires sound_spots { All (λ spot. IsSoundEntry (entry_of_case spot)) spots.now }
-    ensures { result ≡ option_map (λ at. at.place) (first_place (breaks_case config.now rule) (map entry_of_case spots.now)) }
-{
-    'spots: for spot in spots {
-        if breaks(config, rule, *spot) {
-            return Some(spot.place);
+impl<'a> SpotRules<CaseRule, CaseSpot<'a>> for RulesOnCases<'a> {
+    ghost use Rattle.case_rules.specs.CaseRules.{CaseEntry, breaks_case};
+
+    type Known = ();
+
+    ghost Entry = { CaseEntry };
+
+    ghost entry = { entry_of_case };
+
+    ghost broken_at = { λ rules. breaks_case rules.config.now };
+
+    ghost told = { λ rule entry. refused_for_case (rule, entry) };
+
+    ghost knows = { λ _ _ _. Unit {0} };
+
+    ghost is_fit = { λ rules spot. IsSoundConfig rules.config.now × IsSoundEntry (entry_of_case spot) };
+
+    fn nothing_known(&self, _alloc: Global, _rule: CaseRule) {}
+
+    fn is_broken(
+        &self,
+        _alloc: Global,
+        rule: CaseRule,
+        _before: &[CaseSpot<'a>],
+        _known: &mut (),
+        spot: CaseSpot<'a>,
+    ) -> Result<bool, Memory>
+        requires { IsSoundConfig self.now.config.now × IsSoundEntry (entry_of_case spot) }
+        ensures broken { IfOk result (λ broken. broken ≡ breaks_alone self.now.config.now rule (entry_of_case spot.entry)) }
+        ensures known { OnOk result (Unit {0}) }
+    {
+        Ok(breaks(self.config, rule, spot))
+    }
+
+    fn refusal_at(&self, rule: CaseRule, spot: CaseSpot<'a>) -> Refusal
+        ensures { result ≡ refused_for_case (rule, entry_of_case spot.entry) }
+    {
+        Refusal {
+            rule: rule.number(),
+            place: spot.place,
         }
     }
-    None
 }
 
 fn breaks(config: &Config, rule: CaseRule, spot: CaseSpot) -> bool
@@ -146,6 +165,6 @@ fn breaks(config: &Config, rule: CaseRule, spot: CaseSpot) -> bool
 {
     match rule {
         CaseRule::Unsuited => is_unsuited(config, spot.part, spot.case_file),
-        CaseRule::TooManySteps => takes_too_many_steps(config, spot.case_file),
+        CaseRule::TooManySteps => takes_too_many_steps(config, spot.part, spot.case_file),
     }
 }

@@ -1,15 +1,18 @@
 //! The rules on the case files of an accepted configuration.
-ghost use Rattle.std.specs.Prelude.{◌≡◌, ◌*◌, ◌≤◌, nat_lt, length, sum_by, unsigned_abs};
+ghost use Rattle.std.specs.Prelude.{◌≡◌, ◌*◌, ◌≤◌, false, nat_lt, length, sum_by, unsigned_abs};
+ghost use Rattle.std.specs.List.{list_any};
 ghost use Rattle.std.specs.Option.{option_map_or};
+ghost use Rattle.std.specs.Str.{bytes_eq};
 ghost use Rattle.cpl_config.specs.SoundConfig.{IsSoundConfig, IsSoundParticipant};
 ghost use Rattle.case_files.specs.SoundCase.{IsSoundCaseFile};
-ghost use Rattle.case_rules.specs.CaseRules.{vertices_of, case_mesh_called, suits_values, values_of, written_values, read_values, is_suited, is_unsuited, steps_in, takes_too_many_steps};
+ghost use Rattle.case_rules.specs.CaseRules.{vertices_of, case_mesh_called, suits_values, values_of, written_values, read_values, is_suited, is_unsuited, steps_in, makes_windows, takes_too_many_steps};
 
 use crate::case_meshes::{case_mesh_called, suits_meshes, vertices_of};
 use crate::solvers::{has_right_out, has_state, state_length, suits_solver};
 use case_files::CaseFile;
-use config_rules::relaxed::components;
-use cpl_config::{Config, DataEntry, PartTable};
+use config_rules::components;
+use cpl_config::{Config, DataEntry, PartTable, SchemeTable, WindowWord};
+use fixed_num::Name;
 
 /// The most steps that a window takes.
 const MOST_STEPS: u128 = 1_024;
@@ -48,7 +51,8 @@ fn suits_values(written: u64, inputs: u64, case_file: &CaseFile) -> bool
 {
     let size = state_length(case_file);
     has_state(case_file)
-        && (has_right_out(size, written, &case_file.out) && suits_solver(case_file, size, inputs))
+        && (has_right_out(size, written, &case_file.out)
+            && suits_solver(case_file, size, written, inputs))
 }
 
 /// How many values the participant writes.
@@ -105,12 +109,51 @@ fn vertices_on(case_file: &CaseFile, mesh: &str) -> u64
     }
 }
 
-/// Whether a window takes more than 1,024 steps of the case's length.
-pub fn takes_too_many_steps(config: &Config, case_file: &CaseFile) -> bool
+/// Whether a window takes more than 1,024 steps of the case's length; not asked of a participant
+/// whose steps make the windows.
+pub fn takes_too_many_steps(config: &Config, part: &PartTable, case_file: &CaseFile) -> bool
     requires { IsSoundCaseFile case_file.now }
-    ensures { result ≡ takes_too_many_steps config.now case_file.now }
+    ensures { result ≡ takes_too_many_steps config.now part.now case_file.now }
 {
-    needs_more_steps(config.window.unsigned_abs(), ticks_of(case_file))
+    !makes_windows(config, part) && needs_more_steps(ticks_of_window(config), ticks_of(case_file))
+}
+
+/// Whether each step of a participant makes a window.
+fn makes_windows(config: &Config, part: &PartTable) -> bool
+    ensures { result ≡ makes_windows (config.now).window_method config.now part.now }
+{
+    match config.window_method {
+        WindowWord::Fixed => false,
+        WindowWord::FirstParticipant => is_a_first(part, config.scheme.as_slice()),
+    }
+}
+
+/// Whether a participant is the first of one of these schemes.
+fn is_a_first(part: &PartTable, schemes: &[SchemeTable]) -> bool
+    ensures { result ≡ list_any (λ scheme. option_map_or (bytes_eq (part.now).name) scheme.first false) schemes.now }
+{
+    'schemes: for scheme in schemes {
+        if is_named(part, &scheme.first) {
+            return true;
+        }
+    }
+    false
+}
+
+fn is_named(part: &PartTable, name: &Option<Name>) -> bool
+    ensures { result ≡ option_map_or (bytes_eq (part.now).name) name.now false }
+{
+    match name {
+        Some(told) => part.name.as_str() == told.as_str(),
+        None => false,
+    }
+}
+
+/// The length of a window.
+fn ticks_of_window(config: &Config) -> u64
+    ensures { result ≡ unsigned_abs (config.now).window }
+{
+    config.window.unsigned_abs()
 }
 
 /// The length of a step.

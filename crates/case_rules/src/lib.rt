@@ -12,5 +12,8 @@ pub mod solvers;
 mod tests;
 
 pub use case_check::check_cases;
-pub use laws::accepted_cases_describe_solvers;
+pub use laws::{
+    accepted_cases_suit_their_participants, case_rules_are_numbered_in_order,
+    what_suits_its_participant_is_accepted,
+};
 pub use rules::CaseRule;

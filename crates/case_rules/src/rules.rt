@@ -7,7 +7,7 @@ pub enum CaseRule {
     /// A case file does not suit its participant: its meshes, its state, what is written, or what
     /// its kind of solver asks.
     Unsuited,
-    /// A window takes more than 1,024 steps.
+    /// A window takes more than 1,024 steps; not asked of a participant whose steps make the windows.
     TooManySteps,
 }
 

@@ -14,3 +14,6 @@ pub returns-in-Err-clause-answer : goal.returns-in-Err-clause-answer
 returns-in-Err-clause-answer c =
     let config = c.in_ok-config.config in
     checked_err as_a_whole (acceptance c.args.bytes.now) config (config_refusal config) tt c.in-Err.error c.in_ok-config.ensures.answer refl c.in-Err.ensures.answer
+
+pub returns-in-Ok-clause-read : goal.returns-in-Ok-clause-read
+returns-in-Ok-clause-read c = record { bytes = c.args.bytes.now; read = c.in_ok-config.ensures.answer; unbroken = c.in_ok-config.ensures.unbroken }
