@@ -1,6 +1,7 @@
 //! The events of a participant, their replies, and what a core tells of a participant.
 
 use fixed_num::Value;
+use thiserror::Error;
 
 /// The number of a participant: 0 for the first of the scheme, 1 for the second.
 pub type PartId = u32;
@@ -71,13 +72,16 @@ pub enum Ending {
 }
 
 /// Why an event was refused.
-#[derive(Clone, Copy, Debug, PartialEq, Eq)]
+#[derive(Clone, Copy, Debug, PartialEq, Eq, Error)]
 pub enum CoreErr {
     /// The Take waits for `owner`, which stands at this turn.
+    #[error("the input is not given yet")]
     NotEnabled {
         owner: PartId,
         window: u32,
         iteration: u32,
     },
+    /// There was no memory. This answer is free: no contract ties it to a cause.
+    #[error("out of memory")]
     Memory,
 }

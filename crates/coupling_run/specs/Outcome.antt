@@ -7,6 +7,7 @@ use Rattle.coupling_run.specs.Cases.{first_spec, second_spec, opening_state}
 use Rattle.coupling_run.specs.Form.{windows_of, add_of, is_second_case}
 use Rattle.coupling_run.specs.LoopResults.{LoopResults, loop_results}
 use Rattle.coupling_run.specs.ReportText.{report, fault_line, line_feed}
+use Rattle.coupling_run.specs.declared.base.TheConstants.{FIRST_NAME, SECOND_NAME}
 use Rattle.coupling_run.specs.declared.fault.Fault.{Fault}
 use Rattle.coupling_run.specs.declared.status.Status.{Status}
 use Rattle.coupling_run.specs.declared.status.Status.TheVariants.{Ok, Usage, ReadFault, Refused, RunFault}
@@ -22,7 +23,7 @@ usage = record {
   text = codes "usage: coupling run <config> [--workers N] | solo <config> [--schedule S] | check <config> | mill <number>" ++ line_feed;
 }
 
--- a file that is not there is read as nothing
+-- where a file that is asked for is not there, nothing is written
 abbrev pub unread : Outcome
 unread = record { status = ReadFault; text = [] }
 
@@ -60,10 +61,10 @@ loaded_outcome windows (Some first) (Some second) = cases_outcome windows (add_o
 
 -- the names of the case files, as the configuration gives them
 abbrev pub first_case_name : List ℕ
-first_case_name = codes "a.toml"
+first_case_name = FIRST_NAME.now
 
 abbrev pub second_case_name : List ℕ
-second_case_name = codes "b.toml"
+second_case_name = SECOND_NAME.now
 
 -- the case files are loaded only for a configuration that is accepted
 abbrev pub accepted_outcome : FileMap → Option ℕ → Outcome

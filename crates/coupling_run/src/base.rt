@@ -1,5 +1,11 @@
 //! The texts that the accepted files have the trees of, less what may differ.
 
+/// The case file of participant A, as the configuration names it.
+pub const FIRST_NAME: &str = "a.toml";
+
+/// The case file of participant B.
+pub const SECOND_NAME: &str = "b.toml";
+
 /// The configuration, less its `max-windows`.
 pub const CONFIGURATION: &str = r#"format = 1
 window = 10

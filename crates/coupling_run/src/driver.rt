@@ -26,7 +26,8 @@ pub struct RunEnd {
 /// Couples two solvers over so many windows, 1 to 10^6: the first of a serial-explicit scheme and
 /// its second, of one read and one written value each, which take a window in one step.
 ///
-/// The solvers are left in the states in which the loop leaves them.
+/// The solvers are left in the states in which the loop leaves them; after `Memory` they may stand
+/// anywhere on the way, and what they solve by is as before.
 pub fn drive<A: Solver, B: Solver>(
     alloc: Global,
     windows: u32,
@@ -40,6 +41,8 @@ pub fn drive<A: Solver, B: Solver>(
     ensures results { IfOk result (λ end. run_end (A.state first.new) (B.state second.new) end
         ≡ loop_results (A.behaviour (A.spec first.old)) (B.behaviour (B.spec second.old))
         (A.state first.old) (B.state second.old) windows) }
+    ensures first_spec { A.spec first.new ≡ A.spec first.old }
+    ensures second_spec { B.spec second.new ≡ B.spec second.old }
 {
     let mut core = opened(alloc, windows)?;
     let mut first_tally = Tally::default();
@@ -52,8 +55,6 @@ pub fn drive<A: Solver, B: Solver>(
         &mut first_tally,
         &mut second_tally,
     )?;
-    finish(&mut core, 0);
-    finish(&mut core, 1);
     Ok(RunEnd {
         first_steps: first_tally.steps,
         second_steps: second_tally.steps,
@@ -79,6 +80,8 @@ fn run_windows<A: Solver, B: Solver>(
     ensures results { OnOk result (tallied_results (A.state first.new) first_tally.new (B.state second.new) second_tally.new
         ≡ loop_results (A.behaviour (A.spec first.old)) (B.behaviour (B.spec second.old))
         (A.state first.old) (B.state second.old) windows) }
+    ensures first_spec { A.spec first.new ≡ A.spec first.old }
+    ensures second_spec { B.spec second.new ≡ B.spec second.old }
 {
     for _window in 0..windows {
         if core.ending(0).is_some() && core.ending(1).is_some() {
@@ -112,15 +115,6 @@ fn open(core: &mut Core, p: PartId) -> Result<(), Memory>
     match core.apply(p, Event::Post(Value::default())) {
         Ok(_) => Ok(()),
         Err(_) => Err(Memory),
-    }
-}
-
-/// The End of a participant that has not ended before.
-fn finish(core: &mut Core, p: PartId)
-    requires participant { p < 2 }
-{
-    if core.ending(p).is_none() {
-        let _ = core.apply(p, Event::End);
     }
 }
 

@@ -13,13 +13,11 @@ mod tests;
 
 use crate::base::{CONFIGURATION, FIRST_CASE, FIRST_ROW, SECOND_CASE};
 use crate::tree::is_same_table;
+use cpl_config::read::MOST_BYTES;
 use fixed_num::Memory;
 use line_text::read_value;
 use std::alloc::Global;
 use toml::{Table, Value};
-
-/// The most bytes that a file may have.
-const MOST_BYTES: usize = 1_048_576;
 
 /// The most windows that a configuration may ask for.
 const MOST_WINDOWS: u32 = 1_000_000;

@@ -1,4 +1,5 @@
-//! The program `coupling`: runs a coupled simulation of two participants on one thread.
+//! The program `coupling`: checks the files of a coupling, and runs one of two participants on one
+//! thread.
 //!
 //! Values are whole numbers of millionths, time is whole ticks.
 #![tactic(auto)]
@@ -27,32 +28,27 @@ use status::Status;
 use std::env;
 use std::io::ErrorKind;
 use std::process::ExitCode;
+use words::after_the_name;
 
 fn main(rt: HostRuntime) -> ExitCode {
     let status = match words_of(&rt) {
         Ok(words) => coupling_solo(
             rt.alloc(),
-            words.as_slice(),
+            after_the_name(words.as_slice()),
             &mut DiskFiles::new(&rt),
             &mut StdSink::new(&rt),
         ),
         Err(Memory) => Status::Memory,
     };
-    ExitCode::from(status.number())
+    status.exit_code()
 }
 
-/// The command line without the program's name. A word that is not UTF-8 leaves no words, which
-/// are refused as it is to be.
+/// The words of the command line, from the program's name on. A word that is not UTF-8 leaves none,
+/// which is refused as it is to be.
 fn words_of<R: env::Env + AllocGlobal>(rt: &R) -> Result<Vec<String>, Memory> {
-    let mut words = Vec::new(rt.alloc());
     match env::args(rt) {
-        Ok(args) => {
-            for word in args.skip(1) {
-                words.push(word)?;
-            }
-            Ok(words)
-        }
+        Ok(args) => Ok(args.collect(rt.alloc())?),
         Err(error) if error.kind() == ErrorKind::OutOfMemory => Err(Memory),
-        Err(_) => Ok(words),
+        Err(_) => Ok(Vec::new(rt.alloc())),
     }
 }

@@ -10,23 +10,16 @@ ghost use Rattle.coupling_run.specs.Words.{asked_by, asked_of};
 ghost use Rattle.coupling_run.specs.declared.words.CommandWord.TheVariants.{Solo};
 
 use crate::answer::{Answer, Unanswered};
+use crate::base::{FIRST_NAME, SECOND_NAME};
 use crate::check::check;
 use crate::form::{accepted_first, accepted_windows, accepts_second};
 use crate::run::run;
 use crate::status::Status;
 use crate::words::{Command, CommandWord, asked_of};
+use cpl_config::read::MOST_BYTES;
 use fixed_num::Memory;
 use io_edge::{Files, Sink, put_all};
 use std::alloc::Global;
-
-/// The most bytes that a file may have; a load asks for one more, which shows that there are more.
-const MOST_BYTES: usize = 1_048_576;
-
-/// The case file of participant A, as the configuration names it.
-const FIRST_CASE: &str = "a.toml";
-
-/// The case file of participant B.
-const SECOND_CASE: &str = "b.toml";
 
 /// What is written for words that ask for nothing that is served.
 const USAGE: &str =
@@ -75,7 +68,7 @@ pub fn coupling_solo<F: Files, O: Sink>(
 fn tell<O: Sink>(out: &mut O, answer: &Answer) -> Status
     ensures told { result ≢ Status.WriteFault →
         (result ≡ answer.now.status) × (O.taken out.new ≡ taken_more (O.taken out.old) answer.now.text.items) }
-    ensures prefix { (result ≢ answer.now.status) → result ≡ Status.WriteFault }
+    ensures only { result ≢ answer.now.status → result ≡ Status.WriteFault }
     ensures write_fault { result ≡ Status.WriteFault → answer.now.status ≢ Status.WriteFault →
         Rose (O.faults out.old) (O.faults out.new) × TookPrefix (O.taken out.old) (O.taken out.new) answer.now.text.items }
     ensures never_falls { O.faults out.old ≤ O.faults out.new }
@@ -148,8 +141,8 @@ fn solo_cases<F: Files>(alloc: Global, files: &mut F, windows: u32) -> Result<An
     ensures same_told { F.told files.new ≡ F.told files.old }
     ensures never_falls { F.faults files.old ≤ F.faults files.new }
 {
-    let first = load(alloc, files, FIRST_CASE)?;
-    let second = load(alloc, files, SECOND_CASE)?;
+    let first = load(alloc, files, FIRST_NAME)?;
+    let second = load(alloc, files, SECOND_NAME)?;
     Ok(run_cases(alloc, windows, first.as_slice(), second.as_slice())?)
 }
 

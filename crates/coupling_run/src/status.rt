@@ -1,10 +1,14 @@
 ghost use Rattle.std.specs.Prelude.{◌≡◌};
+ghost use Rattle.std.specs.Process.{exit_status};
 ghost use Rattle.coupling_run.specs.Status.{status_number};
 
-/// How the program ends. Only the statuses with a text write any bytes.
+use std::process::ExitCode;
+
+/// How the program ends. `ReadFault` and `Memory` write nothing, `WriteFault` a first part of the
+/// text, the others the whole of it.
 #[derive(Clone, Copy, Debug, PartialEq, Eq)]
 pub enum Status {
-    /// The report was written.
+    /// The report was written, or that the case is accepted.
     Ok,
     /// The words ask for nothing that is served.
     Usage,
@@ -34,5 +38,12 @@ impl Status {
             Status::WriteFault => 6,
             Status::Memory => 7,
         }
+    }
+
+    /// That number as the exit status of the program.
+    pub fn exit_code(self) -> ExitCode
+        ensures { exit_status result ≡ status_number self }
+    {
+        ExitCode::from(self.number())
     }
 }

@@ -196,6 +196,8 @@ fn take_turn<S: Solver>(
 
 /// The turn of a participant: it takes its input, solves and posts. A fault stops it, and so does a
 /// partner that ended before giving the input. One that has ended has no turn.
+///
+/// After `Memory` the solver may stand after its step, with nothing posted: the run is over then.
 pub fn turn<S: Solver>(
     core: &mut Core,
     p: PartId,

@@ -1,4 +1,4 @@
-ghost use Rattle.std.specs.Prelude.{◌≡◌, map, string_bytes, option_map};
+ghost use Rattle.std.specs.Prelude.{◌≡◌, drop, map, string_bytes, option_map};
 ghost use Rattle.coupling_run.specs.Words.{asked_by, command_word, is_name, asked_with, asked_of};
 
 /// The commands that are served.
@@ -15,6 +15,17 @@ pub enum CommandWord {
 pub struct Command<'a> {
     pub word: CommandWord,
     pub name: &'a str,
+}
+
+/// The words of a command line without the first of them, which is the program's name.
+pub fn after_the_name(words: &[String]) -> &[String]
+    ensures { result.now ≡ drop 1 words.now }
+{
+    if words.is_empty() {
+        words
+    } else {
+        words.split_at(1).1
+    }
 }
 
 /// What the words ask for: a command that is served and a name, in this order. Every other list of

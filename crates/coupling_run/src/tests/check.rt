@@ -98,6 +98,13 @@ fn refuses_by_rule(rt: HostRuntime) -> Result<(), Fail> {
         ("ab.toml", "window = 10", "colour = 1", "C3 at config"),
         (
             "ab.toml",
+            "window = 10",
+            "window = 10\nwindow-method = \"fixed\"",
+            "C3 at config",
+        ),
+        ("ab.toml", "format = 1", "format = 3", "C6 at config"),
+        (
+            "ab.toml",
             "max-windows = 3",
             "max-windows = 3\nmax-time = 30",
             "C10 at config",

@@ -15,6 +15,8 @@ returns-then-is_some-2 g c =
     let ended_2 : is_some state.second.ending ≡ true = ap is_some (sym (c.ending-then-is_some.ensures.state c.args.windows history stands)) ∙ sym c.is_some-then-is_some.ensures ∙ c.if-is_some-2.true in
     record {
       results = ap results_of (ended_loop (a.behaviour (a.spec c.args.first.now)) (b.behaviour (b.spec c.args.second.now)) (opening_pair (a.state c.args.first.now) (b.state c.args.second.now)) c.args.windows c.loop-window._window state (a.state c.loop-window.first) (b.state c.loop-window.second) c.loop-window.first_tally c.loop-window.second_tally c.loop-window.second_tally.before (omega arith) progress ended_1 ended_2);
+      first_spec = c.loop-window.invariant.first_spec;
+      second_spec = c.loop-window.invariant.second_spec;
     }
 
 pub turn-requires-in-loop-window-clause-ready : goal.turn-requires-in-loop-window-clause-ready
