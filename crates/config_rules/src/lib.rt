@@ -16,4 +16,5 @@ mod windows;
 
 pub use check::check_config;
 pub use laws::rules_are_numbered_in_order;
+pub use relaxed::components;
 pub use rules::ConfigRule;

@@ -109,7 +109,6 @@ fn one_row_case(alloc: Global, add: i64, factor: i64) -> Result<CaseParts, Memor
         forbid: None,
         row: Some(Items::from_vec(rows)),
         records: None,
-        records: None,
         alpha: 0,
         beta: 0,
         stiff: 0,
