@@ -1,4 +1,5 @@
 pub mod AnyMeshes
 pub mod Meshes
+pub mod Nearest
 pub mod Points
 pub mod Refusals

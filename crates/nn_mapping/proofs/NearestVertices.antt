@@ -6,7 +6,7 @@ use Rattle.std.proofs.lemmas.Bool.{le-leb, leb-true, cases_lt}
 use Rattle.std.proofs.lemmas.List.{same_lists, get_or-map, get_or_default, length-map}
 use Rattle.std.proofs.lemmas.List.Sums.{position_or_len_is, AllPass-from_list_all, list_all-from_AllPass}
 use Rattle.fixed_num.specs.Norm.{square_distance}
-use Rattle.nn_mapping.specs.Nearest.{IsNearest, AreNearest, distance_to, nearest_vertex}
+use Rattle.mesh_data.specs.Nearest.{IsNearest, AreNearest, distance_to, nearest_vertex}
 use Rattle.nn_mapping.specs.Mapping.{Mapping, IsMappingOf, mapping_of}
 
 not_true : (b : Bool) → (b ≡ true → ⊥) → b ≡ false

@@ -1,4 +1,3 @@
-pub mod Nearest
 pub mod Mapping
 pub mod MappedField
 pub mod Overflows

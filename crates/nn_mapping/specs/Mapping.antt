@@ -1,7 +1,7 @@
 -- What a mapping between two meshes is. The coupling documentation has the consistent and the conservative nearest-neighbour mapping; the table is the project's own.
 use Rattle.std.specs.Prelude.{◌≡◌, ℕ, ◌^◌, ◌<◌, ◌≤◌, ℤ, Bool, List, length, map, All, if◌then◌else◌}
 use Rattle.std.specs.Bool.{MatchBool}
-use Rattle.nn_mapping.specs.Nearest.{AreNearest, nearest_vertex}
+use Rattle.mesh_data.specs.Nearest.{AreNearest, nearest_vertex}
 
 -- of which kind it is, between how many vertices, and from which vertex each value comes or to which it goes
 pub record Mapping : Type 0 where

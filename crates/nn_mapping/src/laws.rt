@@ -3,7 +3,7 @@
 ghost use Rattle.std.specs.Prelude.{◌≡◌, ◌<◌, ℕ, ℤ, List, Ok, Err, true, false, length};
 ghost use Rattle.fixed_num.specs.Numbers.{IsValue};
 ghost use Rattle.waveform.specs.declared.field.Field.{Field};
-ghost use Rattle.nn_mapping.specs.Nearest.{IsNearest, nearest_vertex};
+ghost use Rattle.mesh_data.specs.Nearest.{IsNearest, nearest_vertex};
 ghost use Rattle.nn_mapping.specs.Mapping.{Mapping, IsMapping};
 ghost use Rattle.nn_mapping.specs.MappedField.{mapped_component, mapped_values, mapped_field, component_of, total_of};
 ghost use Rattle.nn_mapping.specs.Overflows.{IsFirstOverflow};

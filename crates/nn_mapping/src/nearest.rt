@@ -1,29 +1,12 @@
 ghost use Rattle.std.specs.Prelude.{◌≡◌, ◌<◌, length, IfOk};
 ghost use Rattle.mesh_data.specs.AnyMeshes.{dimensions_of, vertices_of};
+ghost use Rattle.mesh_data.specs.Nearest.{AreNearest};
 ghost use Rattle.mesh_data.specs.Points.{IsDimension};
-ghost use Rattle.nn_mapping.specs.Nearest.{IsNearest, AreNearest};
 
 use fixed_num::Memory;
-use mesh_data::{AnyMesh, Mesh, Point, square_distance};
+use grid_index::{Grid, Steps};
+use mesh_data::{AnyMesh, Mesh};
 use std::alloc::Global;
-
-/// The nearest vertex of a mesh to a point.
-fn nearest_vertex<const D: usize>(mesh: &Mesh<D>, point: &Point<D>) -> u32
-    requires dimensions { IsDimension D }
-    requires some { 0 < length mesh.now }
-    ensures { IsNearest mesh.now point.now result }
-{
-    let mut nearest = 0;
-    let mut least = square_distance(point, mesh.point(0));
-    for v in 1..mesh.len() as u32 {
-        let distance = square_distance(point, mesh.point(v));
-        if distance < least {
-            nearest = v;
-            least = distance;
-        }
-    }
-    nearest
-}
 
 /// Of each vertex of `points`, the nearest one of `mesh`.
 fn nearest_vertices<const D: usize>(
@@ -35,9 +18,11 @@ fn nearest_vertices<const D: usize>(
     requires some { 0 < length mesh.now }
     ensures { IfOk result (λ nearest. AreNearest mesh.now points.now nearest.items) }
 {
+    let grid = Grid::build(alloc, mesh)?;
     let mut nearest = Vec::with_capacity(alloc, points.len())?;
     for v in 0..points.len() as u32 {
-        nearest.push(nearest_vertex(mesh, points.point(v)))?;
+        let mut steps = Steps::new();
+        nearest.push(grid.nearest(points.point(v), &mut steps))?;
     }
     Ok(nearest)
 }

@@ -1,5 +1,5 @@
 use Rattle.std.proofs.Common.{◌≡◌, ℕ, ◌<◌, [], length, get_or}
-use Rattle.nn_mapping.specs.Nearest.{IsNearest}
+use Rattle.mesh_data.specs.Nearest.{IsNearest}
 use Rattle.nn_mapping.proofs.nearest.nearest_vertices.Given as goal
 
 abbrev pub invariant-loop-v : goal.invariant-loop-v

@@ -1,0 +1,15 @@
+pub mod Quotients
+pub mod Totals
+pub mod Powers
+pub mod SpanLemmas
+pub mod BoxLemmas
+pub mod Blocks
+pub mod Costs
+pub mod Reaches
+pub mod Chained
+pub mod Ranks
+pub mod Vertices
+pub mod Looks
+pub mod Padding
+pub mod Searches
+pub mod Regions
