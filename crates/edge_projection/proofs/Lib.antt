@@ -1,0 +1,9 @@
+pub mod RowWrites
+pub mod Totals
+pub mod Places
+pub mod SquareBounds
+pub mod Convex
+pub mod NearestFeet
+pub mod RoundedParts
+pub mod FieldLaws
+pub mod FirstOverflows
