@@ -89,8 +89,9 @@ fn sum_values(config: &Config, case_file: &CaseFile, entries: &[DataEntry]) -> u
     total
 }
 
-/// How many values an entry stands for: for each vertex of its mesh its components.
-fn values_of(config: &Config, case_file: &CaseFile, entry: &DataEntry) -> u64
+/// How many values an entry stands for: for each vertex of its mesh, as the case has it, the
+/// components of its data; at most 30,000.
+pub fn values_of(config: &Config, case_file: &CaseFile, entry: &DataEntry) -> u64
     requires config { IsSoundConfig config.now }
     requires case_file { IsSoundCaseFile case_file.now }
     ensures { result ≡ values_of config.now case_file.now entry.now }

@@ -12,6 +12,7 @@ pub mod solvers;
 mod tests;
 
 pub use case_check::check_cases;
+pub use cases::values_of;
 pub use laws::{
     accepted_cases_suit_their_participants, case_rules_are_numbered_in_order,
     what_suits_its_participant_is_accepted,

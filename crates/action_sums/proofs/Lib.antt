@@ -1,0 +1,2 @@
+pub mod WrittenEntries
+pub mod FitSums
