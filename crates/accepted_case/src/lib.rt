@@ -13,5 +13,5 @@ mod tests;
 
 pub use case_err::CaseErr;
 pub use laws::an_accepted_case_suits_its_participants;
-pub use load::load_case;
+pub use load::{load_bytes, load_case};
 pub use parts::{AcceptedCase, RefusedCase};

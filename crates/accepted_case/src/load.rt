@@ -22,8 +22,24 @@ use config_rules::check_config;
 use cpl_config::read::MOST_BYTES;
 use cpl_config::{Config, ConfigErr, PartTable, read_config};
 use fixed_num::Items;
-use io_edge::Files;
+use io_edge::{Files, LoadErr};
 use std::alloc::Global;
+
+/// The bytes of a file, and of one with more than 1,048,576 bytes only the first 1,048,577, so that
+/// its reader sees that it is too long.
+pub fn load_bytes<F: Files>(alloc: Global, files: &mut F, name: &str) -> Result<Vec<u8>, LoadErr>
+    requires { IsTrue (F.may_ask files.old name.now) }
+    ensures loaded { IfOk result (λ bytes. (told : FileMap) → F.told files.old ≡ Some told →
+        (file : List ℕ) × (told name.now ≡ Some file) × (bytes.items ≡ take (MOST_BYTES + 1) file)) }
+    ensures failed { IsErrOf result LoadErr.Failed → Rose (F.faults files.old) (F.faults files.new) }
+    ensures same_told { F.told files.new ≡ F.told files.old }
+    ensures same_names { F.may_ask files.new ≡ F.may_ask files.old }
+    ensures never_falls { F.faults files.old ≤ F.faults files.new }
+{
+    let mut bytes = Vec::new(alloc);
+    files.load(name, MOST_BYTES, &mut bytes)?;
+    Ok(bytes)
+}
 
 /// Loads the configuration of a name and the case files that it names, and accepts or refuses them.
 ///
@@ -48,28 +64,12 @@ pub fn load_case<F: Files>(
     ensures same_names { F.may_ask files.new ≡ F.may_ask files.old }
     ensures never_falls { F.faults files.old ≤ F.faults files.new }
 {
-    let bytes = load(alloc, files, name)?;
+    let bytes = load_bytes(alloc, files, name)?;
     match accepted_config(alloc, bytes.as_slice()) {
         Ok(config) => load_cases(alloc, files, config),
         Err(ConfigErr::Refused(refusal)) => Err(CaseErr::Refused(refused_config(alloc, refusal))),
         Err(ConfigErr::Memory) => Err(CaseErr::Memory),
     }
-}
-
-/// The bytes of a file, and of one that is too long one byte more than it may have.
-fn load<F: Files>(alloc: Global, files: &mut F, name: &str) -> Result<Vec<u8>, CaseErr>
-    requires { IsTrue (F.may_ask files.old name.now) }
-    ensures loaded { IfOk result (λ bytes. (told : FileMap) → F.told files.old ≡ Some told →
-        (file : List ℕ) × (told name.now ≡ Some file) × (bytes.items ≡ take (MOST_BYTES + 1) file)) }
-    ensures read_fault { IsErrOf result CaseErr.ReadFault → Rose (F.faults files.old) (F.faults files.new) }
-    ensures unrefused { (refused : RefusedCase) → ¬ (result ≡ Err (CaseErr.Refused refused)) }
-    ensures same_told { F.told files.new ≡ F.told files.old }
-    ensures same_names { F.may_ask files.new ≡ F.may_ask files.old }
-    ensures never_falls { F.faults files.old ≤ F.faults files.new }
-{
-    let mut bytes = Vec::new(alloc);
-    files.load(name, MOST_BYTES, &mut bytes)?;
-    Ok(bytes)
 }
 
 /// The configuration in the bytes of its file, checked as a whole.
@@ -131,7 +131,7 @@ fn load_each<F: Files>(
 {
     let mut loaded = Vec::new(alloc);
     'parts: for part in parts {
-        let bytes = load(alloc, files, part.case.as_str())?;
+        let bytes = load_bytes(alloc, files, part.case.as_str())?;
         push(Items::from_vec(bytes), &mut loaded)?;
     }
     Ok(Items::from_vec(loaded))

@@ -1,4 +1,4 @@
-ghost use Rattle.std.specs.Prelude.{◌≡◌, ◌≢◌, ◌≤◌, ◌+◌, ◌^◌, ℕ, List, Some, None, take, map, string_bytes, IfOk, IsTrue, IsErrOf};
+ghost use Rattle.std.specs.Prelude.{◌≡◌, ◌≢◌, ◌≤◌, ◌^◌, Some, None, map, string_bytes, IfOk, IsErrOf};
 ghost use Rattle.io_edge.specs.FileMap.{FileMap};
 ghost use Rattle.io_edge.specs.Rose.{Rose};
 ghost use Rattle.io_edge.specs.Taken.{taken_more, TookPrefix};
@@ -16,7 +16,7 @@ use crate::form::{accepted_first, accepted_windows, accepts_second};
 use crate::run::run;
 use crate::status::Status;
 use crate::words::{Command, CommandWord, asked_of};
-use cpl_config::read::MOST_BYTES;
+use accepted_case::load_bytes;
 use fixed_num::Memory;
 use io_edge::{Files, Sink, put_all};
 use std::alloc::Global;
@@ -122,7 +122,7 @@ fn solo<F: Files>(alloc: Global, files: &mut F, name: &str) -> Result<Answer, Un
     ensures same_told { F.told files.new ≡ F.told files.old }
     ensures never_falls { F.faults files.old ≤ F.faults files.new }
 {
-    let config = load(alloc, files, name)?;
+    let config = load_bytes(alloc, files, name)?;
     match accepted_windows(alloc, config.as_slice())? {
         Some(windows) => solo_cases(alloc, files, windows),
         None => Ok(refusal(alloc, "config")?),
@@ -141,8 +141,8 @@ fn solo_cases<F: Files>(alloc: Global, files: &mut F, windows: u32) -> Result<An
     ensures same_told { F.told files.new ≡ F.told files.old }
     ensures never_falls { F.faults files.old ≤ F.faults files.new }
 {
-    let first = load(alloc, files, FIRST_NAME)?;
-    let second = load(alloc, files, SECOND_NAME)?;
+    let first = load_bytes(alloc, files, FIRST_NAME)?;
+    let second = load_bytes(alloc, files, SECOND_NAME)?;
     Ok(run_cases(alloc, windows, first.as_slice(), second.as_slice())?)
 }
 
@@ -161,21 +161,6 @@ fn run_cases(alloc: Global, windows: u32, first: &[u8], second: &[u8]) -> Result
         return refusal(alloc, "case B");
     }
     run(alloc, windows, add)
-}
-
-/// The bytes of a file, and of one that is too long one byte more than it may have.
-fn load<F: Files>(alloc: Global, files: &mut F, name: &str) -> Result<Vec<u8>, Unanswered>
-    requires { IsTrue (F.may_ask files.old name.now) }
-    ensures loaded { IfOk result (λ bytes. (told : FileMap) → F.told files.old ≡ Some told →
-        (file : List ℕ) × (told name.now ≡ Some file) × (bytes.items ≡ take (MOST_BYTES + 1) file)) }
-    ensures read_fault { IsErrOf result Unanswered.ReadFault → Rose (F.faults files.old) (F.faults files.new) }
-    ensures same_told { F.told files.new ≡ F.told files.old }
-    ensures same_names { F.may_ask files.new ≡ F.may_ask files.old }
-    ensures never_falls { F.faults files.old ≤ F.faults files.new }
-{
-    let mut bytes = Vec::new(alloc);
-    files.load(name, MOST_BYTES, &mut bytes)?;
-    Ok(bytes)
 }
 
 /// The usage line.

@@ -4,6 +4,7 @@ use crate::solo::coupling_solo;
 use crate::status::Status;
 use io_edge::{MemFiles, MemSink};
 use std::alloc::Global;
+use std::process::ExitCode;
 use std::test::Fail;
 
 const CONFIG: &str = r#"format = 1
@@ -234,4 +235,21 @@ fn fails_with_its_files_and_its_sink(rt: HostRuntime) -> Result<(), Fail> {
         assert!(rt; out.bytes() == text.as_bytes(), "at {load} {put}");
     }
     Ok(())
+}
+
+/// Each status ends the program with its number.
+#[test]
+fn ends_with_the_number_of_its_status(rt: HostRuntime) {
+    let cases = [
+        (Status::Ok, 0),
+        (Status::Usage, 2),
+        (Status::ReadFault, 3),
+        (Status::Refused, 4),
+        (Status::RunFault, 5),
+        (Status::WriteFault, 6),
+        (Status::Memory, 7),
+    ];
+    for (status, number) in cases {
+        assert!(rt; status.exit_code() == ExitCode::from(number), "at {number}");
+    }
 }

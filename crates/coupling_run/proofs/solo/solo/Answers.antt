@@ -14,7 +14,7 @@ solo_cases-requires-clause-may_ask g c =
 
 pub returns-in-Some-clause-outcome : goal.returns-in-Some-clause-outcome
 returns-in-Some-clause-outcome g c =
-    let by_cases = λ (answer : Answer). (files : FileMap) → g.F.Files.told c.load.new.files ≡ Some files → outcome_of answer ≡ loaded_outcome c.in-Some.windows (files first_case_name) (files second_case_name) in
+    let by_cases = λ (answer : Answer). (files : FileMap) → g.F.Files.told c.load_bytes.new.files ≡ Some files → outcome_of answer ≡ loaded_outcome c.in-Some.windows (files first_case_name) (files second_case_name) in
     let by_config = λ (answer : Answer). (files : FileMap) → g.F.Files.told c.args.files.now ≡ Some files → outcome_of answer ≡ config_outcome files (files c.args.name.now) in
     IfOk-weaker c.solo_cases.result by_cases by_config (λ answer from_cases files is. (let (config, config_is, config_bytes) = c.in_ok-config.ensures.loaded files is in
     from_cases files (c.in_ok-config.ensures.same_told ∙ is) ∙ accepted_from files c.args.name.now config c.as_slice.result.now (Some c.in-Some.windows) config_is (c.as_slice.ensures.value ∙ config_bytes) (sym c.in_ok-windows.ensures.windows ∙ c.in-Some.is))) c.solo_cases.ensures.outcome
