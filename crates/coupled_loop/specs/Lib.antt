@@ -1,0 +1,14 @@
+pub mod Numbered
+pub mod Given
+pub mod Endings
+pub mod Frames
+pub mod CoreState
+pub mod CoreStep
+pub mod LegalHistory
+pub mod Solving
+pub mod CoupledLoop
+pub mod Schedules
+pub mod FedLoop
+pub mod PlanFrames
+pub mod Settled
+pub mod WorkedLoops
