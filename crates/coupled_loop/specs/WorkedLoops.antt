@@ -29,6 +29,10 @@ parallel_plan =
 abbrev pub iterated_window : PlanParts
 iterated_window = record iterated_plan { end_time = 10; most_windows = 1 }
 
+-- and two of them
+abbrev pub iterated_windows : PlanParts
+iterated_windows = record iterated_plan { end_time = 20; most_windows = 2 }
+
 -- what the other of two has posted in the iteration before
 abbrev pub iterated_before : (part w k : ℕ) → List Need
 iterated_before part w k = record { owner = 1 - part; item = Posted w (k - 1) } ∷ []

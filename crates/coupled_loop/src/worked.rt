@@ -3,7 +3,7 @@ ghost use Rattle.std.specs.Prelude.{◌≡◌, [], ◌∷◌, Some, None, false}
 ghost use Rattle.cpl_plan.specs.ExamplePlan.{two_participants};
 ghost use Rattle.coupled_loop.specs.Endings.{cut, done, early, faulted};
 ghost use Rattle.coupled_loop.specs.Schedules.{go, quit};
-ghost use Rattle.coupled_loop.specs.WorkedLoops.{iterated_window, loop_shows, parallel_plan, schedule_asks, schedule_cuts, schedule_shows};
+ghost use Rattle.coupled_loop.specs.WorkedLoops.{iterated_window, iterated_windows, loop_shows, parallel_plan, schedule_asks, schedule_cuts, schedule_shows};
 
 /// Two participants under a serial-explicit scheme, over three windows: each is given the other's
 /// number, the first that of the window before, the second that of the same window.
@@ -31,6 +31,22 @@ pub fn an_implicit_loop()
       state = 3;
       notes = (0 ∷ []) ∷ (0 ∷ []) ∷ (1 ∷ []) ∷ (100 ∷ []) ∷ (11 ∷ []) ∷ (11 ∷ []) ∷ (12 ∷ []) ∷ (100 ∷ [])
           ∷ (2 ∷ []) ∷ (2 ∷ []) ∷ (3 ∷ []) ∷ (101 ∷ []) ∷ [];
+      ending = Some done;
+    } ∷ [] }
+{}
+
+/// Two such windows: the second starts from what the last iteration of the first has left, and has
+/// converged at once.
+pub fn two_implicit_windows()
+    ensures { loop_shows iterated_windows 0 ≡ record {
+      state = 17;
+      notes = (10 ∷ []) ∷ (10 ∷ []) ∷ (11 ∷ []) ∷ (100 ∷ []) ∷ (1 ∷ []) ∷ (1 ∷ []) ∷ (2 ∷ []) ∷ (100 ∷ [])
+          ∷ (12 ∷ []) ∷ (12 ∷ []) ∷ (13 ∷ []) ∷ (101 ∷ []) ∷ (3 ∷ []) ∷ (16 ∷ []) ∷ (17 ∷ []) ∷ (101 ∷ []) ∷ [];
+      ending = Some done;
+    } ∷ record {
+      state = 17;
+      notes = (0 ∷ []) ∷ (0 ∷ []) ∷ (1 ∷ []) ∷ (100 ∷ []) ∷ (11 ∷ []) ∷ (11 ∷ []) ∷ (12 ∷ []) ∷ (100 ∷ [])
+          ∷ (2 ∷ []) ∷ (2 ∷ []) ∷ (3 ∷ []) ∷ (101 ∷ []) ∷ (13 ∷ []) ∷ (16 ∷ []) ∷ (17 ∷ []) ∷ (101 ∷ []) ∷ [];
       ending = Some done;
     } ∷ [] }
 {}
