@@ -1,0 +1,16 @@
+pub mod AccelFacts
+pub mod ExchangeFacts
+pub mod ExchangePlaces
+pub mod FitAt
+pub mod GroupFacts
+pub mod MapFacts
+pub mod MeshFacts
+pub mod NodeNames
+pub mod NodeOrders
+pub mod OnePlan
+pub mod PartFacts
+pub mod PlanReadings
+pub mod SchemeFacts
+pub mod SizeFacts
+pub mod StepFacts
+pub mod Valid

@@ -1,0 +1,6 @@
+pub mod DataOf
+pub mod MeshOf
+pub mod Nodes
+pub mod PartOf
+pub mod PlanOf
+pub mod WindowsOf

@@ -1,0 +1,5 @@
+pub mod Lookups
+pub mod Tables
+pub mod NamedTables
+pub mod PartsMade
+pub mod Ranges
