@@ -9,8 +9,6 @@ pub mod laws;
 pub mod method;
 pub mod relaxer;
 pub mod residual;
-#[cfg(test)]
-mod tests;
 mod values;
 mod waves;
 

@@ -8,8 +8,6 @@ pub mod load;
 pub mod parts;
 mod push;
 mod refused;
-#[cfg(test)]
-mod tests;
 
 pub use case_err::CaseErr;
 pub use laws::an_accepted_case_suits_its_participants;

@@ -8,8 +8,6 @@ mod lists;
 mod parts;
 pub mod read;
 mod tables;
-#[cfg(test)]
-mod tests;
 mod words;
 
 pub use case_file::{CaseFile, CaseMesh, LinePoints};

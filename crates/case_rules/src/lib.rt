@@ -8,8 +8,6 @@ pub mod cases;
 pub mod laws;
 pub mod rules;
 pub mod solvers;
-#[cfg(test)]
-mod tests;
 
 pub use case_check::check_cases;
 pub use cases::values_of;

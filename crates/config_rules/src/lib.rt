@@ -5,13 +5,11 @@ mod breaks;
 mod check;
 mod circles;
 mod exchanges;
-mod groups;
+pub mod groups;
 pub mod laws;
-mod relaxed;
+pub mod relaxed;
 mod rules;
 mod schemes;
-#[cfg(test)]
-mod tests;
 mod windows;
 
 pub use check::check_config;

@@ -103,7 +103,9 @@ fn accelerated_components(
     }
 }
 
-fn is_accelerated(table: &SchemeTable, acceleration: &AccelEntry, entry: &ExchangeEntry) -> bool
+/// Whether an exchange is accelerated: its data are among those of the acceleration, and it is relaxed
+/// between iterations.
+pub fn is_accelerated(table: &SchemeTable, acceleration: &AccelEntry, entry: &ExchangeEntry) -> bool
     ensures { result ≡ is_accelerated table.now acceleration.now entry.now }
 {
     is_among(entry.data_name.as_str(), acceleration.data_list.as_slice())

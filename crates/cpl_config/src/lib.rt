@@ -10,8 +10,6 @@ mod part_tables;
 pub mod read;
 mod scheme_tables;
 pub mod tables_of;
-#[cfg(test)]
-mod tests;
 pub mod values;
 mod words_of;
 

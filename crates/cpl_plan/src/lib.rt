@@ -8,8 +8,6 @@ pub mod laws;
 mod needs;
 pub mod parts;
 pub mod plan;
-#[cfg(test)]
-mod tests;
 pub mod windows;
 pub mod words;
 

@@ -12,8 +12,6 @@ pub mod over_spots;
 pub mod refusal;
 pub mod rules;
 pub mod spots;
-#[cfg(test)]
-mod tests;
 
 pub use over_spots::{SpotRules, first_broken};
 pub use refusal::first_refusal;

@@ -10,8 +10,6 @@ pub mod laws;
 pub mod place_text;
 pub mod places;
 pub mod shapes;
-#[cfg(test)]
-mod tests;
 pub mod values;
 pub mod word_lists;
 

@@ -15,8 +15,6 @@ mod offsets;
 mod parts;
 mod rows;
 mod sums;
-#[cfg(test)]
-mod tests;
 mod weights;
 
 pub use edge::{Edge, Foot};

@@ -12,8 +12,6 @@ pub mod laws;
 mod looking;
 mod spans;
 pub mod steps;
-#[cfg(test)]
-mod tests;
 
 pub use grid::Grid;
 pub use steps::Steps;

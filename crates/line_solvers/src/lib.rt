@@ -26,6 +26,3 @@ pub use rod::Rod;
 pub use rows::Rows;
 pub use ruled::Ruled;
 pub use spring::Spring;
-
-#[cfg(test)]
-mod tests;

@@ -10,8 +10,6 @@ pub mod laws;
 pub mod mappings;
 pub mod meshes;
 pub mod named;
-#[cfg(test)]
-mod tests;
 
 pub use actions::is_wrong_action;
 pub use declared_names::names_nothing;

@@ -1,0 +1,5 @@
+//! A plan that is made, copied and read.
+#![tactic(auto)]
+
+#[cfg(test)]
+mod plans;

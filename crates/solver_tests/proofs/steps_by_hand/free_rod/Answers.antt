@@ -1,0 +1,19 @@
+use Rattle.std.proofs.Common.{rules}
+use Rattle.solver_tests.proofs.steps_by_hand.free_rod.Goals as goal
+
+pub from_case-requires : goal.from_case-requires
+from_case-requires c = record {
+  a_tick = search rules;
+  step_limit = search rules;
+  one_state = search rules;
+  not_empty = search rules;
+  not_long = search rules;
+  values = search rules;
+  fill = search rules;
+  count = search rules;
+  forbid = search rules;
+  out_listed = search rules;
+  out_range = search rules;
+  out_length = search rules;
+  kind = search rules;
+}

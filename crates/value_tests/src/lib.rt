@@ -1,0 +1,5 @@
+//! Relaxed iterations, by hand.
+#![tactic(auto)]
+
+#[cfg(test)]
+mod relaxation;
