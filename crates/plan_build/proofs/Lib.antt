@@ -9,6 +9,7 @@ pub mod NodeNames
 pub mod NodeOrders
 pub mod OnePlan
 pub mod PartFacts
+pub mod PlanMade
 pub mod PlanReadings
 pub mod SchemeFacts
 pub mod SizeFacts

@@ -1,4 +1,5 @@
 pub mod DataOf
+pub mod ExampleConfig
 pub mod MeshOf
 pub mod Nodes
 pub mod PartOf

@@ -1,6 +1,15 @@
-//! What the plan of an accepted configuration is.
+//! From an accepted configuration to its plan.
 #![tactic(auto)]
 
+mod data;
 pub mod laws;
+mod meshes;
+mod nodes;
+mod participants;
+mod plan;
+mod schemes;
+mod windows;
+pub mod worked;
 
-pub use laws::{nodes_stand_in_order, the_plan_is_valid, there_is_one_plan};
+pub use laws::the_plan_is_valid;
+pub use plan::build;

@@ -1,19 +1,22 @@
 -- Names that are looked for in lists of tables, and what stands at their places.
-use Rattle.std.proofs.Common.{◌≡◌, ℕ, zero, suc, ◌+◌, ◌<◌, ◌≤◌, Bool, true, false, not, ◌||◌, cond, List, [], ◌∷◌, ◌++◌, length, map, take, get_or, position, Option, Some, None, refl, ap, sym, ◌∙◌, arith}
-use Rattle.std.specs.Prelude.{unwrap_or, nat_lt, slice_get}
-use Rattle.std.specs.List.{list_any, position_or_len}
+use Rattle.std.proofs.Common.{◌≡◌, ℕ, zero, suc, ◌+◌, ◌<◌, ◌≤◌, Bool, true, false, not, ◌||◌, cond, List, [], ◌∷◌, ◌++◌, length, map, take, get_or, find, position, Option, Some, None, refl, ap, sym, ◌∙◌, arith}
+use Rattle.std.specs.Prelude.{unwrap_or, nat_lt, slice_get, option_map}
+use Rattle.std.specs.List.{list_any, position_or_len, HoldsAt}
 use Rattle.std.specs.Str.{bytes_eq}
+use Rattle.std.proofs.lemmas.Bool.{ltb-false}
+use Rattle.std.specs.Option.{option_and_then, MatchOption}
+use Rattle.std.proofs.lemmas.List.Folds.{find_at}
 use Rattle.cpl_tables.specs.Values.{are_distinct_texts}
 use Rattle.std.proofs.lemmas.List.{length-map, map-append}
 use Rattle.std.proofs.lemmas.List.Concat.{length-flat_map}
 use Rattle.std.proofs.lemmas.List.Sums.{sum_by-take-drop, sum_by-drop_more}
-use Rattle.std.proofs.lemmas.Option.{slice_get_within, get_or_from_slice_get}
+use Rattle.std.proofs.lemmas.Option.{slice_get_within, slice_get_past, slice_get-get_or, get_or_from_slice_get}
 use Rattle.cpl_config.specs.declared.config.Config.{Config}
 use Rattle.cpl_config.specs.declared.config.PartTable.{PartTable}
 use Rattle.cpl_config.specs.declared.config.SchemeTable.{SchemeTable}
 use Rattle.cpl_config.specs.SoundConfig.{IsSoundConfig, IsSoundParticipant}
 use Rattle.mesh_rules.specs.Named.{participant_called}
-use Rattle.scheme_parts.specs.Names.{number_in}
+use Rattle.scheme_parts.specs.Names.{number_in, part_names}
 use Rattle.scheme_parts.specs.NumbersOf.{exchanges_before}
 use Rattle.scheme_parts.proofs.Tables.{all_at, found_place, same_bool}
 use Rattle.config_laws.proofs.Truths.{both, fails, neither, same_text, text_same, text_apart, apart_text}
@@ -75,6 +78,30 @@ position_of_text {X} f name xs =
 pub number_among : {X : Type 0} (name_of : X → List ℕ) (tables : List X) (names : List (List ℕ)) (name : List ℕ) → names ≡ map name_of tables
     → number_in names name ≡ unwrap_or (position (λ table. bytes_eq (name_of table) name) tables) 0
 number_among name_of tables names name are = ap (λ (xs : List (List ℕ)). number_in xs name) are ∙ ap (λ (o : Option ℕ). unwrap_or o 0) (position_of_map (λ other. bytes_eq other name) name_of tables)
+
+-- what is found is what stands at the first place
+pub found_at_place : {X : Type 0} (test : X → Bool) (xs : List X) → find test xs ≡ option_and_then (slice_get xs) (position test xs)
+found_at_place {X} test xs = find_at test xs ∙ sym (by_test (nat_lt (position_or_len test xs) (length xs)) refl)
+  where
+    by_test : (b : Bool) → nat_lt (position_or_len test xs) (length xs) ≡ b → option_and_then (slice_get xs) (cond b (Some (position_or_len test xs)) None) ≡ slice_get xs (position_or_len test xs)
+    by_test true is = refl
+    by_test false is = sym (slice_get_past xs (position_or_len test xs) (ltb-false (position_or_len test xs) (length xs) is))
+
+-- what a look-up by place answers
+pub looked_up : {B X : Type 0} (value : B → X) (o : Option B) (xs : List X) (k : ℕ) → MatchOption o (length xs ≤ k) (λ b. (k < length xs) × HoldsAt (λ y. value b ≡ y) xs k)
+    → option_map value o ≡ slice_get xs k
+looked_up value None xs k is = sym (slice_get_past xs k is)
+looked_up value (Some b) xs k is = ap Some (is.1 (value b)) ∙ sym (slice_get-get_or xs k (value b) is.0)
+
+-- the participant of a name, by the place of the name among those of all
+pub participant_at : (config : Config) (names : List (List ℕ)) (name : List ℕ) (place : Option ℕ) → names ≡ part_names config → place ≡ position (λ other. bytes_eq other name) names
+    → participant_called config name ≡ option_and_then (slice_get config.participant) place
+participant_at config names name place are is =
+    let test : List ℕ → Bool = λ other. bytes_eq other name in
+    let own : position test names ≡ position (λ (table : PartTable). bytes_eq table.name name) config.participant =
+    ap (position test) are ∙ position_of_map test (λ (table : PartTable). table.name) config.participant in
+    found_at_place (λ (table : PartTable). bytes_eq table.name name) config.participant
+    ∙ ap (option_and_then (slice_get config.participant)) (sym (is ∙ own))
 
 -- the participant of a name has few mappings
 pub few_maps : (config : Config) (name : List ℕ) (table : PartTable) → IsSoundConfig config → participant_called config name ≡ Some table → length table.map ≤ 64

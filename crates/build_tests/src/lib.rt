@@ -1,0 +1,5 @@
+//! Plans of whole configurations, from their texts.
+#![tactic(auto)]
+
+#[cfg(test)]
+mod plans;
