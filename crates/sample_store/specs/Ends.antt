@@ -1,0 +1,12 @@
+-- The newest sample of what was accepted for a window, by a look-up in all that was given. The project's own.
+use Rattle.std.specs.Prelude.{ℕ, ◌-◌, List, length, Option, slice_get}
+use Rattle.std.specs.Option.{option_and_then}
+use Rattle.cpl_plan.specs.declared.words.Item.TheVariants.{Completed}
+use Rattle.coupled_loop.specs.Given.{Gift, found}
+use Rattle.waveform.specs.declared.sample.Sample.{Sample}
+
+abbrev pub newest_sample : List Sample → Option Sample
+newest_sample samples = slice_get samples (length samples - 1)
+
+abbrev pub end_sample : List (Gift (List Sample)) → (w : ℕ) → Option Sample
+end_sample given w = option_and_then (λ gift. newest_sample gift.post) (found given (Completed w))

@@ -1,0 +1,12 @@
+-- What a store keeps, of its fields. The project's own.
+use Rattle.sample_store.specs.Kept.{Kept}
+use Rattle.sample_store.specs.declared.store.Store.TheInside.{Inside}
+
+abbrev pub kept_view : Inside → Kept
+kept_view store = record {
+  progress = record { window = store.window; iteration = store.newest.iteration; is_accepted = store.is_accepted };
+  newest = store.newest.wave;
+  previous = store.previous;
+  last = store.last;
+  older = store.older;
+}

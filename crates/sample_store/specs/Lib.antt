@@ -1,0 +1,9 @@
+pub mod ProgressOf
+pub mod NextTurn
+pub mod Held
+pub mod Ends
+pub mod InOrder
+pub mod Kept
+pub mod KeptView
+pub mod KeptSteps
+pub mod StandsFor
