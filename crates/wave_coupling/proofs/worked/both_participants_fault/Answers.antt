@@ -1,0 +1,7 @@
+use Rattle.std.proofs.Common.{refl}
+use Rattle.wave_coupling.proofs.OnLiterals.{waves_on_literals}
+use Rattle.wave_coupling.proofs.worked.both_participants_fault.Goals as goal
+
+pub returns : goal.returns
+unfolding waves_on_literals
+returns c = refl

@@ -1,0 +1,16 @@
+pub mod Root
+pub mod Posts
+pub mod Mapped
+pub mod InputWave
+pub mod Judged
+pub mod Noted
+pub mod Known
+pub mod PostedWaves
+pub mod MappedInputs
+pub mod Solve
+pub mod Coupling
+pub mod LoopResults
+pub mod WorkedCases
+pub mod WorkedFiles
+pub mod WorkedImplicit
+pub mod WorkedMore
