@@ -1,0 +1,17 @@
+pub mod InputFits
+pub mod InputsStay
+pub mod JudgementsStay
+pub mod MappedFits
+pub mod MappedWaves
+pub mod Outside
+pub mod Relaxing
+pub mod ReadValues
+pub mod RelaxedFits
+pub mod Roots
+pub mod SameResults
+pub mod Senders
+pub mod Settling
+pub mod Stills
+pub mod WaveFits
+pub mod WaveLaws
+pub mod WrittenFits

@@ -1,0 +1,9 @@
+pub mod Lists
+pub mod Served
+pub mod WritesFit
+pub mod ReadsFit
+pub mod StepsFit
+pub mod SolvesFit
+pub mod Times
+pub mod TurnsFit
+pub mod PostsFit
