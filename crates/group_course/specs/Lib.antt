@@ -1,0 +1,10 @@
+pub mod CourseKept
+pub mod StoresTell
+pub mod Held
+pub mod Shapes
+pub mod CourseTells
+pub mod Ready
+pub mod JudgementOf
+pub mod Norms
+pub mod Taken
+pub mod Outcome
