@@ -1,0 +1,12 @@
+pub mod Aligned
+pub mod Searches
+pub mod FewNeeds
+pub mod PlaceTells
+pub mod KeptTells
+pub mod AsksTell
+pub mod StandingPuts
+pub mod Histories
+pub mod Telling
+pub mod Gates
+pub mod FitsAlike
+pub mod Apart

@@ -1,0 +1,10 @@
+pub mod CoreWords
+pub mod PostedMeshes
+pub mod FittingPosts
+pub mod Fitting
+pub mod Reached
+pub mod Answers
+pub mod KeptPlaces
+pub mod Searched
+pub mod KeptSides
+pub mod SidesStand
