@@ -1,0 +1,2 @@
+pub mod MappedThrough
+pub mod Refusals

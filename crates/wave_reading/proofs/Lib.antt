@@ -1,0 +1,3 @@
+pub mod LineValues
+pub mod FoundPlaces
+pub mod ReadRows
