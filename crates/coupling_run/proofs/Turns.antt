@@ -4,13 +4,13 @@ use Rattle.std.proofs.Common.{◌≡◌, ℕ, zero, suc, ◌+◌, ◌<◌, ◌�
 use Rattle.std.specs.List.{slice_index_or}
 use Rattle.std.proofs.lemmas.Option.{get_or_from_slice_get}
 use Rattle.std.proofs.Math.Nat.{add-sub_cancel}
-use Rattle.coupling_core.specs.CoreState.{Act, Made, CutOff, CoreState, PartState, History, partner_of, part_of, part_after, state_with, state_after, accepted}
-use Rattle.coupling_core.specs.CoreStep.{entry_in, position_in, needed_window, take_in, take_step, take_act}
-use Rattle.coupling_core.specs.Kept.{Kept, kept_of}
-use Rattle.coupling_core.specs.StandsFor.{StandsFor}
-use Rattle.coupling_core.proofs.Histories.{state_after-more, StandsFor-at}
-use Rattle.coupling_core.specs.declared.event.Event.TheVariants.{Post, Take, Stop}
-use Rattle.coupling_core.specs.declared.event.Ending.{Ending}
+use Rattle.pair_core.specs.CoreState.{Act, Made, CutOff, CoreState, PartState, History, partner_of, part_of, part_after, state_with, state_after, accepted}
+use Rattle.pair_core.specs.CoreStep.{entry_in, position_in, needed_window, take_in, take_step, take_act}
+use Rattle.pair_core.specs.Kept.{Kept, kept_of}
+use Rattle.pair_core.specs.StandsFor.{StandsFor}
+use Rattle.pair_core.proofs.Histories.{state_after-more, StandsFor-at}
+use Rattle.pair_core.specs.declared.event.Event.TheVariants.{Post, Take, Stop}
+use Rattle.pair_core.specs.declared.event.Ending.{Ending}
 use Rattle.solver_trait.specs.Behaviour.{Behaviour}
 use Rattle.coupling_run.specs.CoupledLoop.{turn, turn_on, after_solve, fault_in}
 use Rattle.coupling_run.specs.InputWave.{input_wave}

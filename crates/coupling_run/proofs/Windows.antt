@@ -4,8 +4,8 @@ use Rattle.std.specs.List.{slice_get, slice_index_or}
 use Rattle.std.proofs.lemmas.Bool.{or_left, or_right}
 use Rattle.std.proofs.lemmas.List.{get_or_append_left}
 use Rattle.std.proofs.lemmas.Option.{slice_get-get_or}
-use Rattle.coupling_core.specs.CoreState.{CoreState, PartState}
-use Rattle.coupling_core.specs.declared.event.Ending.{Ending}
+use Rattle.pair_core.specs.CoreState.{CoreState, PartState}
+use Rattle.pair_core.specs.declared.event.Ending.{Ending}
 use Rattle.solver_trait.specs.Behaviour.{Behaviour}
 use Rattle.coupling_run.specs.CoupledLoop.{Member, Coupled, turn, turn_on, after_solve, coupled_window, coupled_loop}
 use Rattle.coupling_run.specs.InputWave.{InputWave, input_wave}

@@ -1,8 +1,8 @@
 -- What the driver asks of its solvers, and what it leaves, as the loop's results. The project's own.
 use Rattle.std.specs.Prelude.{◌≡◌, ℕ, [], ◌∷◌, false, pos, None}
-use Rattle.coupling_core.specs.CoreState.{PartState, History, state_after}
-use Rattle.coupling_core.specs.Kept.{Kept}
-use Rattle.coupling_core.specs.StandsFor.{StandsFor}
+use Rattle.pair_core.specs.CoreState.{PartState, History, state_after}
+use Rattle.pair_core.specs.Kept.{Kept}
+use Rattle.pair_core.specs.StandsFor.{StandsFor}
 use Rattle.solver_trait.specs.Behaviour.{Behaviour}
 use Rattle.coupling_run.specs.LoopResults.{LoopResults, earlier_fault}
 use Rattle.coupling_run.specs.Solve.{window_ticks}

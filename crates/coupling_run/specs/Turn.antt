@@ -2,13 +2,13 @@
 -- core stands for, and a tally. The project's own.
 use Rattle.std.specs.Prelude.{◌≡◌, ℕ, ◌+◌, ◌-◌, ◌≤◌, Bool, false, IsTrue, is_some, ◌||◌, [], ◌∷◌, ◌++◌, length, ℤ, pos, Option, Some, None, ◌==◌, if◌then◌else◌}
 use Rattle.std.specs.List.{slice_index_or}
-use Rattle.coupling_core.specs.CoreState.{CoreState, PartState, History, partner_of, part_of, state_after, accepted}
-use Rattle.coupling_core.specs.CoreStep.{needed_window, entry_in}
-use Rattle.coupling_core.specs.declared.event.Event.TheVariants.{Post, Stop}
-use Rattle.coupling_core.specs.Kept.{Kept}
-use Rattle.coupling_core.specs.StandsFor.{StandsFor}
-use Rattle.coupling_core.specs.declared.event.Reply.{Reply}
-use Rattle.coupling_core.specs.declared.event.Reply.TheVariants.{Posted, Input, Cut, Over}
+use Rattle.pair_core.specs.CoreState.{CoreState, PartState, History, partner_of, part_of, state_after, accepted}
+use Rattle.pair_core.specs.CoreStep.{needed_window, entry_in}
+use Rattle.pair_core.specs.declared.event.Event.TheVariants.{Post, Stop}
+use Rattle.pair_core.specs.Kept.{Kept}
+use Rattle.pair_core.specs.StandsFor.{StandsFor}
+use Rattle.pair_core.specs.declared.event.Reply.{Reply}
+use Rattle.pair_core.specs.declared.event.Reply.TheVariants.{Posted, Input, Cut, Over}
 use Rattle.solver_trait.specs.Behaviour.{Behaviour}
 use Rattle.solver_trait.specs.declared.StepErr.{StepErr}
 use Rattle.solver_trait.specs.declared.StepErr.TheVariants.{Fault as StepFault, Memory as StepMemory}

@@ -1,16 +1,16 @@
 ghost use Rattle.std.specs.Prelude.{◌≡◌, ◌+◌, ◌<◌, ◌≤◌, ◌^◌, ◌++◌, ◌∷◌, [], ℕ, IfOk, OnOk, pos};
-ghost use Rattle.coupling_core.specs.CoreState.{History, state_after, part_of};
-ghost use Rattle.coupling_core.specs.CoreStep.{entry_in};
-ghost use Rattle.coupling_core.specs.StandsFor.{StandsFor};
-ghost use Rattle.coupling_core.specs.Kept.{kept_of, kept_next_kind};
+ghost use Rattle.pair_core.specs.CoreState.{History, state_after, part_of};
+ghost use Rattle.pair_core.specs.CoreStep.{entry_in};
+ghost use Rattle.pair_core.specs.StandsFor.{StandsFor};
+ghost use Rattle.pair_core.specs.Kept.{kept_of, kept_next_kind};
 ghost use Rattle.coupling_run.specs.Drive.{run_end, tallied_results, IsOpened, TakesWindowsWhole};
 ghost use Rattle.coupling_run.specs.Tally.{IsOpeningTally};
 ghost use Rattle.coupling_run.specs.LoopResults.{loop_results, earlier_fault};
 
 use crate::fault::Fault;
 use crate::turn::{Tally, turn};
-use coupling_core::{Core, Event, NextKind, PartId};
 use fixed_num::{Memory, Value};
+use pair_core::{Core, Event, NextKind, PartId};
 use solver_trait::Solver;
 use std::alloc::Global;
 

@@ -1,4 +1,4 @@
-use coupling_core::PartId;
+use pair_core::PartId;
 
 /// A solver's fault, and the step that met it. Windows, iterations and steps count from 1.
 #[derive(Clone, Copy, Debug, PartialEq, Eq)]

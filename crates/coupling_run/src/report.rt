@@ -6,9 +6,9 @@ ghost use Rattle.coupling_run.specs.Drive.{run_end};
 use crate::driver::RunEnd;
 use crate::fault::Fault;
 use crate::turn::WINDOW;
-use coupling_core::PartId;
 use fixed_num::Memory;
 use line_text::print_value;
+use pair_core::PartId;
 use std::alloc::Global;
 
 /// The names of the participants.

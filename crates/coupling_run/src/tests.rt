@@ -1,5 +1,7 @@
 mod check;
 
+ghost use Rattle.std.specs.Prelude.{◌<◌};
+
 use crate::solo::coupling_solo;
 use crate::status::Status;
 use io_edge::{MemFiles, MemSink};
@@ -7,7 +9,7 @@ use std::alloc::Global;
 use std::process::ExitCode;
 use std::test::Fail;
 
-const CONFIG: &str = r#"format = 1
+pub(crate) const CONFIG: &str = r#"format = 1
 window = 10
 max-windows = 3
 
@@ -57,7 +59,7 @@ exchange = [
 ]
 "#;
 
-const FIRST: &str = r#"solver = "rows"
+pub(crate) const FIRST: &str = r#"solver = "rows"
 step = 10
 state = ["0"]
 [[mesh]]
@@ -68,7 +70,7 @@ add = "1"
 reads = [[0, "1"]]
 "#;
 
-const SECOND: &str = r#"solver = "rows"
+pub(crate) const SECOND: &str = r#"solver = "rows"
 step = 10
 state = ["0"]
 [[mesh]]
@@ -93,6 +95,31 @@ fn base_files(alloc: Global) -> Result<MemFiles, Fail> {
     Ok(files)
 }
 
+/// Puts one text in place of the first of another in one of the base files.
+fn change(
+    alloc: Global,
+    file: &str,
+    old: &str,
+    new: &str,
+    files: &mut MemFiles,
+) -> Result<(), Fail> {
+    let text = match file {
+        "a.toml" => FIRST,
+        "b.toml" => SECOND,
+        _ => CONFIG,
+    };
+    let text = text.replacen(alloc, old, new, 1)?;
+    files.insert(file, text.as_bytes())?;
+    Ok(())
+}
+
+/// The files of the base case with that change.
+fn changed_files(alloc: Global, file: &str, old: &str, new: &str) -> Result<MemFiles, Fail> {
+    let mut files = base_files(alloc)?;
+    change(alloc, file, old, new, &mut files)?;
+    Ok(files)
+}
+
 /// The status of these words, which a blank separates.
 fn status_of(
     alloc: Global,
@@ -107,133 +134,114 @@ fn status_of(
     Ok(coupling_solo(alloc, words.as_slice(), files, out))
 }
 
+/// Whether these words are answered with this status and text.
+fn answers(
+    alloc: Global,
+    line: &str,
+    files: &mut MemFiles,
+    status: Status,
+    text: &str,
+) -> Result<bool, Fail> {
+    let mut out = MemSink::new(alloc, 1000)?;
+    let told = status_of(alloc, line, files, &mut out)?;
+    Ok(told == status && out.bytes() == text.as_bytes())
+}
+
 #[test]
 fn answers_the_words(rt: HostRuntime) -> Result<(), Fail> {
     let alloc = rt.alloc();
-    let cases = [
-        ("solo ab.toml", Status::Ok, REPORT),
-        ("", Status::Usage, USAGE),
-        ("solo", Status::Usage, USAGE),
-        ("walk ab.toml", Status::Usage, USAGE),
-        ("solo -ab.toml", Status::Usage, USAGE),
-        ("check", Status::Usage, USAGE),
-        ("check -ab.toml", Status::Usage, USAGE),
-        ("ab.toml check", Status::Usage, USAGE),
-        ("solo ab.toml ab.toml", Status::Usage, USAGE),
-        ("solo none.toml", Status::ReadFault, ""),
-        ("solo b.toml", Status::Refused, "refused C0 at config\n"),
-    ];
-    for (line, status, text) in cases {
-        let mut files = base_files(alloc)?;
-        let mut out = MemSink::new(alloc, 1000)?;
-        assert!(rt;
-            status_of(alloc, line, &mut files, &mut out)? == status,
-            "at {line}"
-        );
-        assert!(rt; out.bytes() == text.as_bytes(), "at {line}");
-    }
+    let mut files = base_files(alloc)?;
+    assert!(rt; answers(alloc, "solo ab.toml", &mut files, Status::Ok, REPORT)?);
+    assert!(rt; answers(alloc, "solo none.toml", &mut files, Status::ReadFault, "")?);
+    let refused = "refused C0 at config\n";
+    assert!(rt; answers(alloc, "solo b.toml", &mut files, Status::Refused, refused)?);
+    files.insert("ab.toml", "".as_bytes())?;
+    assert!(rt; answers(alloc, "solo ab.toml", &mut files, Status::Refused, refused)?);
     Ok(())
 }
 
 #[test]
+fn tells_how_it_is_used(rt: HostRuntime) -> Result<(), Fail> {
+    let alloc = rt.alloc();
+    let mut files = base_files(alloc)?;
+    let lines = [
+        "",
+        "solo",
+        "walk ab.toml",
+        "solo -ab.toml",
+        "check",
+        "check -ab.toml",
+        "ab.toml check",
+        "solo ab.toml ab.toml",
+    ];
+    for line in lines {
+        assert!(rt;
+            answers(alloc, line, &mut files, Status::Usage, USAGE)?,
+            "at {line}"
+        );
+    }
+    Ok(())
+}
+
+/// A sum that is no Value is a fault of the run; all else that is changed is refused.
+#[test]
 fn answers_changed_files(rt: HostRuntime) -> Result<(), Fail> {
     let alloc = rt.alloc();
+    let mut files = changed_files(alloc, "a.toml", "add = \"1\"", "add = \"10000000\"")?;
     let fault = "fault participant A window 2 iteration 1 step 1 code 1\n";
-    let add = "add = \"1\"";
+    assert!(rt; answers(alloc, "solo ab.toml", &mut files, Status::RunFault, fault)?);
     let cases = [
         (
             "a.toml",
-            FIRST,
-            add,
-            "add = \"10000000\"",
-            Status::RunFault,
-            fault,
-        ),
-        (
-            "a.toml",
-            FIRST,
-            add,
-            "add = \"10000000.000001\"",
-            Status::Refused,
+            "\"1\"\n",
+            "\"10000000.000001\"\n",
             "refused C0 at case A\n",
         ),
-        (
-            "a.toml",
-            FIRST,
-            "step = 10",
-            "step = 5",
-            Status::Refused,
-            "refused C0 at case A\n",
-        ),
-        (
-            "b.toml",
-            SECOND,
-            "0.5",
-            "0.25",
-            Status::Refused,
-            "refused C0 at case B\n",
-        ),
-        (
-            "ab.toml",
-            CONFIG,
-            "serial",
-            "parallel",
-            Status::Refused,
-            "refused C0 at config\n",
-        ),
-        (
-            "ab.toml",
-            "-",
-            "-",
-            "",
-            Status::Refused,
-            "refused C0 at config\n",
-        ),
-        (
-            "ab.toml",
-            "-",
-            "-",
-            "format = ",
-            Status::Refused,
-            "refused C0 at config\n",
-        ),
+        ("a.toml", "step = 10", "step = 5", "refused C0 at case A\n"),
+        ("b.toml", "0.5", "0.25", "refused C0 at case B\n"),
+        ("ab.toml", "serial", "parallel", "refused C0 at config\n"),
+        ("ab.toml", "format", "#", "refused C0 at config\n"),
+        ("ab.toml", "format", "=", "refused C0 at config\n"),
     ];
-    for (name, text, old, new, status, written) in cases {
-        let mut files = base_files(alloc)?;
-        let mut out = MemSink::new(alloc, 1000)?;
-        let (before, after) = text.split_once(old).ok_or("the text has what is changed")?;
-        files.insert(name, format!(in alloc; "{before}{new}{after}")?.as_bytes())?;
+    for (file, old, new, told) in cases {
+        let mut files = changed_files(alloc, file, old, new)?;
         assert!(rt;
-            status_of(alloc, "solo ab.toml", &mut files, &mut out)? == status,
+            answers(alloc, "solo ab.toml", &mut files, Status::Refused, told)?,
             "at {new}"
         );
-        assert!(rt; out.bytes() == written.as_bytes(), "at {new}");
     }
     Ok(())
+}
+
+/// Whether a run of the base case is answered so where this load, then this put fails, and a put
+/// takes so many bytes.
+fn fails_with(
+    alloc: Global,
+    load: u64,
+    put: u64,
+    most: usize,
+    status: Status,
+    text: &str,
+) -> Result<bool, Fail>
+    requires { 0 < most }
+{
+    let mut files = base_files(alloc)?;
+    files.fail_at(load)?;
+    let mut out = MemSink::new(alloc, 1000)?;
+    out.fail_at(put)?;
+    out.most_per_put(most);
+    let told = status_of(alloc, "solo ab.toml", &mut files, &mut out)?;
+    Ok(told == status && out.bytes() == text.as_bytes())
 }
 
 #[test]
 fn fails_with_its_files_and_its_sink(rt: HostRuntime) -> Result<(), Fail> {
     let alloc = rt.alloc();
     let no_call = u64::MAX;
-    let cases = [
-        (1, no_call, 1000, Status::ReadFault, ""),
-        (no_call, 0, 1000, Status::WriteFault, ""),
-        (no_call, 1, 7, Status::WriteFault, "coupled"),
-        (no_call, no_call, 7, Status::Ok, REPORT),
-    ];
-    for (load, put, most, status, text) in cases {
-        let mut files = base_files(alloc)?;
-        files.fail_at(load)?;
-        let mut out = MemSink::new(alloc, 1000)?;
-        out.fail_at(put)?;
-        out.most_per_put(most);
-        assert!(rt;
-            status_of(alloc, "solo ab.toml", &mut files, &mut out)? == status,
-            "at {load} {put}"
-        );
-        assert!(rt; out.bytes() == text.as_bytes(), "at {load} {put}");
-    }
+    assert!(rt; fails_with(alloc, 1, no_call, 1000, Status::ReadFault, "")?);
+    assert!(rt; fails_with(alloc, no_call, 0, 1000, Status::WriteFault, "")?);
+    assert!(rt; fails_with(alloc, no_call, 1, 7, Status::WriteFault, "coupled")?);
+    assert!(rt; fails_with(alloc, no_call, no_call, 7, Status::Ok, REPORT)?);
     Ok(())
 }
 

@@ -1,14 +1,14 @@
 ghost use Rattle.std.specs.Prelude.{◌≡◌, ◌+◌, ◌<◌, ◌≤◌, ◌^◌, ℕ, ℤ, pos, [], ◌∷◌, ◌++◌, length, IfOk, IfErr, OnOk, OnErr, IsTrue, Some, None, IsNone};
-ghost use Rattle.coupling_core.specs.CoreState.{History, state_after, part_of, partner_of};
-ghost use Rattle.coupling_core.specs.CoreStep.{entry_in};
-ghost use Rattle.coupling_core.specs.StandsFor.{StandsFor};
-ghost use Rattle.coupling_core.specs.Kept.{kept_of, kept_next_kind};
+ghost use Rattle.pair_core.specs.CoreState.{History, state_after, part_of, partner_of};
+ghost use Rattle.pair_core.specs.CoreStep.{entry_in};
+ghost use Rattle.pair_core.specs.StandsFor.{StandsFor};
+ghost use Rattle.pair_core.specs.Kept.{kept_of, kept_next_kind};
 ghost use Rattle.coupling_run.specs.Solve.{solve, reaches};
 ghost use Rattle.coupling_run.specs.Turn.{input_in, needed_value, IsAnswered, IsSolveError, wave_read, HasSolved, IsAtTurn, ComesToTurn, IsReady, Turned};
 
 use crate::fault::Fault;
-use coupling_core::{Core, CoreErr, Event, NextKind, PartId, Reply};
 use fixed_num::{Memory, Value, value_of};
+use pair_core::{Core, CoreErr, Event, NextKind, PartId, Reply};
 use solver_trait::{Solver, StepErr};
 
 /// The ticks of a window.

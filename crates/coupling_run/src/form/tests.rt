@@ -1,81 +1,24 @@
 use super::{accepted_first, accepted_windows, accepts_second};
-use std::alloc::{AllocError, Global};
+use crate::tests::{CONFIG, FIRST, SECOND};
+use std::alloc::Global;
 use std::test::Fail;
 
-const CONFIGURATION: &str = r#"format = 1
-window = 10
-max-windows = 3
+/// Whether the configuration gives so many windows with one text in place of the first of another.
+fn gives(alloc: Global, old: &str, new: &str, windows: Option<u32>) -> Result<bool, Fail> {
+    let text = CONFIG.replacen(alloc, old, new, 1)?;
+    Ok(accepted_windows(alloc, text.as_bytes())? == windows)
+}
 
-[[data]]
-name = "U"
-kind = "scalar"
+/// Whether the first case adds so many units with such a change.
+fn adds(alloc: Global, old: &str, new: &str, units: Option<i64>) -> Result<bool, Fail> {
+    let text = FIRST.replacen(alloc, old, new, 1)?;
+    Ok(accepted_first(alloc, text.as_bytes())? == units)
+}
 
-[[data]]
-name = "V"
-kind = "scalar"
-
-[[mesh]]
-name = "MA"
-dimensions = 2
-data = ["U", "V"]
-
-[[mesh]]
-name = "MB"
-dimensions = 2
-data = ["U", "V"]
-
-[[participant]]
-name = "A"
-case = "a.toml"
-provides = ["MA"]
-receives = [{ mesh = "MB", from = "B" }]
-write = [{ data = "U", mesh = "MA" }]
-read = [{ data = "V", mesh = "MA" }]
-map = [{ direction = "read", from = "MB", to = "MA", constraint = "consistent" }]
-
-[[participant]]
-name = "B"
-case = "b.toml"
-provides = ["MB"]
-receives = [{ mesh = "MA", from = "A" }]
-write = [{ data = "V", mesh = "MB" }]
-read = [{ data = "U", mesh = "MB" }]
-map = [{ direction = "read", from = "MA", to = "MB", constraint = "consistent" }]
-
-[[scheme]]
-kind = "serial-explicit"
-first = "A"
-second = "B"
-exchange = [
-  { data = "U", mesh = "MA", from = "A", to = "B" },
-  { data = "V", mesh = "MB", from = "B", to = "A" },
-]
-"#;
-
-const FIRST: &str = r#"solver = "rows"
-step = 10
-state = ["0"]
-[[mesh]]
-name = "MA"
-points = [["0", "0"]]
-[[row]]
-add = "1"
-reads = [[0, "1"]]
-"#;
-
-const SECOND: &str = r#"solver = "rows"
-step = 10
-state = ["0"]
-[[mesh]]
-name = "MB"
-points = [["0", "0"]]
-[[row]]
-reads = [[0, "0.5"]]
-"#;
-
-/// The text with another line in place of one of its own.
-fn changed(alloc: Global, text: &str, line: &str, to: &str) -> Result<String, AllocError> {
-    text.replacen(alloc, line, to, 1)
+/// Whether the second case is accepted with such a change.
+fn is_known(alloc: Global, old: &str, new: &str) -> Result<bool, Fail> {
+    let text = SECOND.replacen(alloc, old, new, 1)?;
+    Ok(accepts_second(alloc, text.as_bytes())?)
 }
 
 #[test]
@@ -112,12 +55,7 @@ fn a_configuration_gives_its_windows(rt: HostRuntime) -> Result<(), Fail> {
         ),
     ];
     for (line, to, windows) in cases {
-        let text = changed(alloc, CONFIGURATION, line, to)?;
-        assert_eq!(rt;
-            accepted_windows(alloc, text.as_bytes())?,
-            windows,
-            "with {to}"
-        );
+        assert!(rt; gives(alloc, line, to, windows)?, "with {to}");
     }
     for bytes in [
         b"".as_slice(),
@@ -157,8 +95,7 @@ fn the_first_case_gives_its_add(rt: HostRuntime) -> Result<(), Fail> {
         ("[[row]]", "[row]", None),
     ];
     for (line, to, units) in cases {
-        let text = changed(alloc, FIRST, line, to)?;
-        assert_eq!(rt; accepted_first(alloc, text.as_bytes())?, units, "with {to}");
+        assert!(rt; adds(alloc, line, to, units)?, "with {to}");
     }
     for text in ["", "step = ", SECOND] {
         assert_eq!(rt; accepted_first(alloc, text.as_bytes())?, None);
@@ -176,12 +113,7 @@ fn the_second_case_is_known(rt: HostRuntime) -> Result<(), Fail> {
         ("\"0.5\"", "0.5", false),
     ];
     for (line, to, accepted) in cases {
-        let text = changed(alloc, SECOND, line, to)?;
-        assert_eq!(rt;
-            accepts_second(alloc, text.as_bytes())?,
-            accepted,
-            "with {to}"
-        );
+        assert!(rt; is_known(alloc, line, to)? == accepted, "with {to}");
     }
     for text in ["", "step = ", FIRST] {
         assert!(rt; !accepts_second(alloc, text.as_bytes())?);

@@ -1,5 +1,5 @@
 use Rattle.std.proofs.Common.{◌≡◌, is_some, true, sym, ap, ◌∙◌, arith, add-one}
-use Rattle.coupling_core.specs.CoreState.{state_after}
+use Rattle.pair_core.specs.CoreState.{state_after}
 use Rattle.coupling_run.specs.CoupledLoop.{opening_pair}
 use Rattle.coupling_run.specs.LoopResults.{results_of}
 use Rattle.coupling_run.proofs.Windows.{first_ready, second_ready, window_done, ended_loop}

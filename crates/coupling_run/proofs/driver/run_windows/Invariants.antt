@@ -1,6 +1,6 @@
 use Rattle.std.proofs.Common.{◌≡◌, ◌≤◌}
-use Rattle.coupling_core.specs.CoreState.{History, state_after}
-use Rattle.coupling_core.specs.StandsFor.{StandsFor}
+use Rattle.pair_core.specs.CoreState.{History, state_after}
+use Rattle.pair_core.specs.StandsFor.{StandsFor}
 use Rattle.coupling_run.specs.CoupledLoop.{opening_pair}
 use Rattle.coupling_run.specs.Turn.{member_of}
 use Rattle.coupling_run.proofs.Windows.{Progress}
