@@ -76,6 +76,8 @@ module _ {Post Inputs Fault : Type 0} (frame : Frame Post Inputs Fault) where
     pub served : (w : ℕ) → IsSome (found given (Completed (suc w))) → (k : ℕ) × AreNeedsGiven frame f part (suc w) k
     -- posts bear their iterations
     pub numbered : (w k : ℕ) (gift : Gift Post) → found given (Posted w k) ≡ Some gift → gift.iteration ≡ k
+    -- who repeats a window was given what it needs for it
+    pub turned : (w k : ℕ) → turn_at place ≡ (w, k) → 1 < k → (j : ℕ) × AreNeedsGiven frame f part w j
 
   pub aligns_still : (f g : Look Post) (part : ℕ) (place : Place) (given : List (Gift Post)) → IsSound frame → IsSettled frame → part < frame.parts
       → Extends f g → IsInOrder f → IsInOrder g → Aligns f part place given → Aligns g part place given
@@ -86,6 +88,7 @@ module _ {Post Inputs Fault : Type 0} (frame : Frame Post Inputs Fault) where
         judged_still f g scheme (suc w) gift.iteration IsAccepting settled (group_solved frame sound part scheme is_part grouped) extends order later (is.accepted scheme w gift grouped has);
     served = λ w has. let own = is.served w has in (own.0, λ need among. still_given f g need.owner need.item extends (own.1 need among));
     numbered = is.numbered;
+    turned = λ w k at more. let own = is.turned w k at more in (own.0, λ need among. still_given f g need.owner need.item extends (own.1 need among));
   }
 
   module _ (f : Look Post) (part : ℕ) (given : List (Gift Post)) where
@@ -96,6 +99,7 @@ module _ {Post Inputs Fault : Type 0} (frame : Frame Post Inputs Fault) where
       accepted = is.accepted;
       served = is.served;
       numbered = is.numbered;
+      turned = λ w k at. is.turned w k (sym same ∙ at);
     }
 
     -- it posts its initial data
@@ -108,6 +112,7 @@ module _ {Post Inputs Fault : Type 0} (frame : Frame Post Inputs Fault) where
       ];
       served = λ w has. elim (found_before_or given first (Completed (suc w)) has) [ inl old ↦ is.served w old | inr new ↦ cc ];
       numbered = λ w k gift has. elim (found_new given first (Posted w k) gift has) [ inl old ↦ is.numbered w k gift old | inr new ↦ cc ];
+      turned = λ w k at more. let second : 1 ≡ k = ap (λ turn. turn.1) at in absurd (omega (arith, more, second));
     } where
       first : Gift Post
       first = record { item = Completed 0; iteration = 0; post = post }
@@ -126,6 +131,7 @@ module _ {Post Inputs Fault : Type 0} (frame : Frame Post Inputs Fault) where
         | inl old ↦ is.numbered v j gift old
         | inr new ↦ let second : k ≡ j = cc in sym (ap (λ (g : Gift Post). g.iteration) new.1) ∙ second
       ];
+      turned = λ v i at. is.turned v i (sym same ∙ at);
     } where
       turn : Gift Post
       turn = record { item = Posted w k; iteration = k; post = post }
@@ -137,12 +143,16 @@ module _ {Post Inputs Fault : Type 0} (frame : Frame Post Inputs Fault) where
       none_passed : (scheme v i j : ℕ) → frame.group part ≡ Some scheme → turn_at (taking (w + 1) 1) ≡ (v, i) → 1 ≤ j → j < i → IsJudgedBy f scheme v j (λ judgement. judgement ≡ again)
       none_passed scheme v i j grouped at from below = let second : 1 ≡ i = ap (λ turn. turn.1) at in absurd (omega (arith, from, below, second))
 
+      none_turned : (v i : ℕ) → turn_at (taking (w + 1) 1) ≡ (v, i) → 1 < i → (j : ℕ) × AreNeedsGiven frame f part v j
+      none_turned v i at more = let second : 1 ≡ i = ap (λ turn. turn.1) at in absurd (omega (arith, more, second))
+
       by : (o : Option (Gift Post)) → found given (Posted w k) ≡ o → Aligns f part (taking (w + 1) 1) (given ++ option_to_list (option_map (accepted_for w) o))
       by None e = subst (λ (xs : List (Gift Post)). Aligns f part (taking (w + 1) 1) xs) (sym (append-nil given)) (record {
         passed = none_passed;
         accepted = is.accepted;
         served = is.served;
         numbered = is.numbered;
+        turned = none_turned;
       })
       by (Some gift) e = record {
         passed = none_passed;
@@ -159,12 +169,13 @@ module _ {Post Inputs Fault : Type 0} (frame : Frame Post Inputs Fault) where
           | inr new ↦ let window : w ≡ suc v = cc in (k, subst (λ (u : ℕ). AreNeedsGiven frame f part u k) window needed)
         ];
         numbered = λ v j one has. elim (found_new given (accepted_for w gift) (Posted v j) one has) [ inl old ↦ is.numbered v j one old | inr new ↦ cc ];
+        turned = none_turned;
       }
 
     -- it repeats a window
     pub aligns_again : (w k : ℕ) (place : Place) → turn_at place ≡ (w, k) → ((scheme : ℕ) → frame.group part ≡ Some scheme → IsJudgedBy f scheme w k (λ judgement. judgement ≡ again))
-        → Aligns f part place given → Aligns f part (taking w (k + 1)) given
-    aligns_again w k place at judged is = record {
+        → AreNeedsGiven frame f part w k → Aligns f part place given → Aligns f part (taking w (k + 1)) given
+    aligns_again w k place at judged needed is = record {
       passed = λ scheme v i j grouped there from below.
           let window : w ≡ v = ap (λ turn. turn.0) there in
           let iteration : k + 1 ≡ i = ap (λ turn. turn.1) there in
@@ -177,6 +188,7 @@ module _ {Post Inputs Fault : Type 0} (frame : Frame Post Inputs Fault) where
       accepted = is.accepted;
       served = is.served;
       numbered = is.numbered;
+      turned = λ v i there more. let window : w ≡ v = ap (λ turn. turn.0) there in (k, subst (λ (u : ℕ). AreNeedsGiven frame f part u k) window needed);
     }
 
 module _ {Mesh Post Inputs Fault : Type 0} (frame : Frame Post Inputs Fault) where
@@ -190,6 +202,7 @@ module _ {Mesh Post Inputs Fault : Type 0} (frame : Frame Post Inputs Fault) whe
       accepted = λ scheme w gift grouped has. cc;
       served = λ w has. cc;
       numbered = λ w k gift has. cc;
+      turned = λ w k at more. let none : 0 ≡ k = ap (λ turn. turn.1) at in absurd (omega (arith, more, none));
     };
   }
 
@@ -216,7 +229,7 @@ module _ {Mesh Post Inputs Fault : Type 0} (frame : Frame Post Inputs Fault) whe
         → (judgement : Judgement Fault) → frame.judge (look_in sides) scheme w k ≡ judgement → IsNow (after_judgement judgement w k (sides part))
     hears_it scheme w k at stands granted is again told =
         aligns_again frame (look_in sides) part (sides part).given w k (judging scheme w k) refl
-        (judged_here scheme w k (λ judgement. judgement ≡ again) stands granted told) is
+        (judged_here scheme w k (λ judgement. judgement ≡ again) stands granted told) stands.2.needed is
     hears_it scheme w k at stands granted is converged told =
         aligns_completed frame (look_in sides) part (sides part).given w k (judging scheme w k)
         (judged_here scheme w k IsAccepting stands granted (subst IsAccepting (sym told) tt)) stands.2.needed is

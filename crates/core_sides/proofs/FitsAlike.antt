@@ -59,7 +59,7 @@ module _ (plan : PlanParts) (kept : Sides) (sides other : WaveState) (here : Are
       ∙ ap (λ (end : Option ℕ). if makes_windows plan part then latest_end plan (start_of plan (look_in other) w) else option_map_or (λ e. e) end 0) (ends_same w)
 
   of_exchange : (e : Exchange) (sample : Sample) → IsOfExchange plan sides e sample → IsOfExchange plan other e sample
-  of_exchange e sample is = record { components = is.components; values = is.values ∙ values_same e }
+  of_exchange e sample is = record { components = is.components; values = is.values ∙ values_same e; in_range = is.in_range }
 
   initial_wave : (e : Exchange) (wave : Wave) → IsInitialWave plan sides e wave → IsInitialWave plan other e wave
   initial_wave e wave is = record {
@@ -76,6 +76,7 @@ module _ (plan : PlanParts) (kept : Sides) (sides other : WaveState) (here : Are
   window_wave : (part w : ℕ) (e : Exchange) (wave : Wave) → IsWindowWave plan sides part w e wave → IsWindowWave plan other part w e wave
   window_wave part w e wave is = record {
     is_wave = is.is_wave;
+    few = is.few;
     later = All-weaker (λ s. start_of plan (look_in sides) w < s.time) (λ s. start_of plan (look_in other) w < s.time)
         (λ s less. subst (λ (n : ℕ). n < s.time) (start_same w) less) wave is.later;
     end = ends_so (makes_windows plan part) (last_time wave) (latest_of plan (look_in other) part w)

@@ -1,5 +1,6 @@
 -- What a participant may post: a wave for each exchange that it sends, of the exchange's lengths, at time 0 or within the window. After the coupling documentation, where data are written at times of a window, the last at its end; first-participant windows end with the step.
 use Rattle.std.specs.Prelude.{◌≡◌, ℕ, ◌<◌, ◌≤◌, Bool, true, false, length, All, slice_get, Some}
+use Rattle.fixed_num.specs.Numbers.{IsValue}
 use Rattle.waveform.specs.IsWave.{IsWave, last_time}
 use Rattle.waveform.specs.declared.sample.Sample.{Sample}
 use Rattle.cpl_plan.specs.PlanWords.{components_of}
@@ -18,10 +19,11 @@ pub record AreWaves (plan : PlanParts) (part : ℕ) (Fits : Exchange → Wave �
       → slice_get post i ≡ Some wave → Fits e wave
 
 module _ (plan : PlanParts) (sides : WaveState) where
-  -- a sample has the exchange's lengths
+  -- a sample has the exchange's lengths, and each number is a Value
   pub record IsOfExchange (e : Exchange) (sample : Sample) : Type 0 where
     pub components : sample.field.components ≡ components_of plan e
     pub values : length sample.field.values ≡ values_in plan sides e
+    pub in_range : All IsValue sample.field.values
 
   -- initial data: one sample, at time 0
   pub record IsInitialWave (e : Exchange) (wave : Wave) : Type 0 where
@@ -35,9 +37,10 @@ module _ (plan : PlanParts) (sides : WaveState) where
   EndsAs false last latest = last ≡ latest
   EndsAs true last latest = last ≤ latest
 
-  -- data of a window: all samples after its start, the last at its end; that one alone without substeps, and of a window that a step makes
+  -- data of a window: at most 1,024 samples, all after its start, the last at its end; that one alone without substeps, and of a window that a step makes
   pub record IsWindowWave (part w : ℕ) (e : Exchange) (wave : Wave) : Type 0 where
     pub is_wave : IsWave wave
+    pub few : length wave ≤ 1024
     pub later : All (λ s. start_of plan (look_in sides) w < s.time) wave
     pub end : EndsAs (makes_windows plan part) (last_time wave) (latest_of plan (look_in sides) part w)
     pub without_substeps : e.substeps ≡ false → length wave ≡ 1

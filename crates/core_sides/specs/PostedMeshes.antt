@@ -1,5 +1,5 @@
--- The meshes that participants post: those that they provide, of the plan's dimensions, and none of them empty. After the coupling documentation's provided meshes.
-use Rattle.std.specs.Prelude.{◌≡◌, ℕ, ◌*◌, ◌≤◌, nat_eq, List, [], length, position, slice_get, Option, Some, option_map, option_and_then}
+-- The meshes that participants post: those that they provide, of the plan's dimensions, none of them empty or too large. After the coupling documentation's provided meshes; the greatest number of vertices is the project's own.
+use Rattle.std.specs.Prelude.{◌≡◌, ℕ, ◌*◌, ◌^◌, ◌≤◌, nat_eq, List, [], length, position, slice_get, Option, Some, option_map, option_and_then}
 use Rattle.std.specs.Option.{option_map_or}
 use Rattle.mesh_data.specs.AnyMeshes.{dimensions_of, vertices_of}
 use Rattle.mesh_data.specs.declared.any_mesh.AnyMesh.{AnyMesh}
@@ -9,10 +9,11 @@ use Rattle.cpl_plan.specs.declared.parts.Exchange.{Exchange}
 use Rattle.wave_coupling.specs.Known.{provided_by}
 use Rattle.core_sides.specs.CoreWords.{WaveState}
 
--- a mesh has the plan's dimensions and is not empty
+-- a mesh has the plan's dimensions, is not empty, and has at most 10,000 vertices
 pub record IsOfPlan (plan : PlanParts) (number : ℕ) (mesh : AnyMesh) : Type 0 where
   pub dimensions : option_map (λ m. m.dimensions) (slice_get plan.meshes number) ≡ Some (dimensions_of mesh)
   pub some_vertex : 1 ≤ length (vertices_of mesh)
+  pub few : length (vertices_of mesh) ≤ 10 ^ 4
 
 -- one mesh for each that the participant provides, in order
 pub record AreProvided (plan : PlanParts) (part : ℕ) (meshes : List AnyMesh) : Type 0 where

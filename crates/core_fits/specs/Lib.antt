@@ -1,0 +1,2 @@
+pub mod VerticesIn
+pub mod Newest
