@@ -1,0 +1,12 @@
+pub mod Progresses
+pub mod HeldEnds
+pub mod HeldPosts
+pub mod Initials
+pub mod Changes
+pub mod Rests
+pub mod Posted
+pub mod HeldAccepted
+pub mod Turns
+pub mod SomeStores
+pub mod AllStores
+pub mod SoFar

@@ -1,0 +1,2 @@
+pub mod StoresStand
+pub mod StoreMoves
