@@ -1,0 +1,11 @@
+pub mod TurnMoves
+pub mod LaterCourses
+pub mod GoOn
+pub mod Posted
+pub mod Together
+pub mod IterationShapes
+pub mod Ready
+pub mod JudgedNow
+pub mod Sets
+pub mod WrittenDown
+pub mod SomeSchemes

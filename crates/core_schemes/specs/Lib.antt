@@ -1,0 +1,2 @@
+pub mod SchemesStand
+pub mod Judging
