@@ -1,0 +1,16 @@
+use Rattle.std.proofs.Common.{◌-◌, subst}
+use Rattle.wave_coupling.specs.Posts.{Wave}
+use Rattle.wave_coupling.specs.InputWave.{completed}
+use Rattle.group_course.proofs.StoreWords.{posted_is}
+use Rattle.core_takes.specs.Readable.{CanFollow}
+use Rattle.core_takes.proofs.Followings.{alike_by}
+use Rattle.core_takes.proofs.kinds.posted_input.Goals as goal
+
+pub led_by-requires-clause-alike : goal.led_by-requires-clause-alike
+led_by-requires-clause-alike c =
+    let r = c.requires.readable in
+    let turn = c.args.turn in
+    let samples = c.post_of-samples.result.now in
+    alike_by r.plan r.look c.args.x r.e c.args.store.now r.tells (turn.window - 1) turn.start c.end_before.result.now c.end_before.ensures.looked_up samples
+    (subst (λ (ws : Wave). CanFollow turn.start (completed r.plan r.look r.e c.args.x (turn.window - 1)).wave ws)
+    (posted_is r.plan r.look c.args.x r.e c.args.store.now r.tells turn.window turn.iteration samples c.post_of-samples.ensures) r.follow)

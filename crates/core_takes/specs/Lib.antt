@@ -1,0 +1,5 @@
+pub mod Numbered
+pub mod Held
+pub mod Ready
+pub mod Readable
+pub mod Collected
