@@ -1,0 +1,17 @@
+pub mod Steps
+pub mod PutBack
+pub mod Gates
+pub mod PlacedPuts
+pub mod Moved
+pub mod Inside
+pub mod TurnEvents
+pub mod Ends
+pub mod Lined
+pub mod Looking
+pub mod PostEvents
+pub mod JudgeEvents
+pub mod TakeEvents
+pub mod Readers
+pub mod SomePlaced
+pub mod SomeLined
+pub mod SomeCores

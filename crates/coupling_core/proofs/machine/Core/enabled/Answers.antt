@@ -1,0 +1,30 @@
+use Rattle.std.proofs.Common.{ap, sym, subst, arith, length, ◌∙◌}
+use Rattle.cpl_plan.proofs.Readings.{there}
+use Rattle.coupling_core.specs.KeptView.{kept_view}
+use Rattle.coupling_core.specs.StandsFor.{StandsFor}
+use Rattle.coupling_core.proofs.PlacedPuts.{as_standing}
+use Rattle.coupling_core.proofs.Inside.{part_there, standing_there}
+use Rattle.core_sides.specs.Answers.{enabled_in}
+use Rattle.wave_laws.proofs.Settling.{wave_settled}
+use Rattle.core_sides.proofs.Histories.{reached_told}
+use Rattle.core_sides.proofs.Telling.{enabled_is}
+use Rattle.coupling_core.proofs.machine.Core.enabled.Goals as goal
+
+pub enabled-requires : goal.enabled-requires
+enabled-requires c = record {
+  standing = standing_there (kept_view c.self.inside) c.self.invariant c.args.p (part_there c.args.self.now (kept_view c.self.inside) c.self.view_is c.args.p c.requires.participant);
+  participant = part_there c.args.self.now (kept_view c.self.inside) c.self.view_is c.args.p c.requires.participant;
+}
+
+pub returns : goal.returns
+returns c = record {
+  state = λ h sides stands.
+      let own = subst (λ core. StandsFor core h sides) (sym c.self.view_is) stands in
+      let are = as_standing c.self.inside.plan c.self.inside.sides sides own.sides in
+      let here = there c.self.inside.sides.standings.items c.args.p (standing_there (kept_view c.self.inside) c.self.invariant c.args.p (part_there c.args.self.now (kept_view c.self.inside) c.self.view_is c.args.p c.requires.participant)) in
+      c.enabled.ensures here.0 here.1
+      ∙ enabled_is c.self.inside.plan c.self.inside.sides sides are c.args.p here.0 here.1 c.self.invariant.valid
+      (reached_told c.self.inside.plan h sides c.self.invariant.valid (wave_settled c.self.inside.plan c.self.invariant.valid) own.reached)
+      (part_there c.args.self.now (kept_view c.self.inside) c.self.view_is c.args.p c.requires.participant)
+      ∙ ap (λ core. enabled_in core.plan sides c.args.p) c.self.view_is;
+}

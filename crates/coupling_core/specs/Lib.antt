@@ -1,0 +1,12 @@
+pub mod JudgedLines
+pub mod CoreKept
+pub mod KeptView
+pub mod Placed
+pub mod LinesStand
+pub mod StandsFor
+pub mod Outcomes
+pub mod OneMore
+pub mod Gated
+pub mod Heard
+pub mod Stopped
+pub mod Opened
