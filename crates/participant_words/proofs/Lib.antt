@@ -1,0 +1,4 @@
+pub mod OnLiterals
+mod KnownAlike
+mod PhaseSteps
+mod WindowsFollow

@@ -1,0 +1,15 @@
+pub mod Phases
+pub mod KnownByReply
+pub mod EventKinds
+pub mod Deeds
+pub mod Course
+pub mod Named
+pub mod Entries
+pub mod WatchShown
+pub mod Begun
+pub mod Replied
+pub mod AfterDeed
+pub mod Questions
+pub mod Refusals
+pub mod Replies
+pub mod WorkedCourses
