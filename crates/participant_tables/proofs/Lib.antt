@@ -1,0 +1,9 @@
+pub mod Growing
+pub mod InPlace
+pub mod NamesOnce
+pub mod Looking
+pub mod NameKeys
+pub mod Results
+pub mod Serving
+pub mod Shapes
+pub mod Undone
