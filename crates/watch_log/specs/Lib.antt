@@ -1,0 +1,4 @@
+pub mod Words
+pub mod FaultText
+pub mod ReportText
+pub mod Told
