@@ -1,0 +1,9 @@
+pub mod Sends
+pub mod Checked
+pub mod Samples
+pub mod Provided
+pub mod Spanned
+pub mod InSpans
+pub mod WavesFit
+pub mod AtPlaces
+pub mod Fitted
