@@ -1,4 +1,4 @@
-ghost use Rattle.std.specs.Prelude.{◌≡◌, ◌≤◌, ◌<◌, [], ◌∷◌, ◌++◌, List, length, Ok, Err, IsOk, IfOk, IfErr, OnOk, OnErr};
+ghost use Rattle.std.specs.Prelude.{◌≡◌, ◌≤◌, ◌<◌, [], ◌∷◌, ◌++◌, List, length, Ok, Err, IsOk, IsTrue, IfOk, IfErr, OnOk, OnErr};
 ghost use Rattle.coupled_loop.specs.LegalHistory.{opening_state};
 ghost use Rattle.core_sides.specs.CoreWords.{WaveState, WaveEntry};
 ghost use Rattle.core_sides.specs.Answers.{act_of, next_kind_in, enabled_in, ending_in, position_in, window_end_in, answer_in, entry_in, state_after};
@@ -13,6 +13,7 @@ use core_schemes::SchemeState;
 use core_sides::windows::end_of;
 use core_sides::{CoreErr, Enabled, Ending, Event, NextKind, Reply, Sides};
 use cpl_plan::{IterLine, Plan};
+use event_fits::fits;
 use fixed_num::Memory;
 use plan_order::PartId;
 use sample_store::Store;
@@ -76,6 +77,16 @@ impl Core {
             → result ≡ next_kind_in self.now.plan sides p }
     {
         self.sides.next_kind(&self.plan, p)
+    }
+
+    /// Whether `p` may ask for an event: the test of what `apply` wants of it. If it answers true, the
+    /// event fits.
+    pub fn fits(&self, p: PartId, event: &Event) -> bool
+        requires participant { p < length self.now.plan.parts }
+        ensures fitting { IsTrue result → (h : List WaveEntry) (sides : WaveState)
+            → StandsFor self.now h sides → IsFitting self.now.plan sides p (act_of event.now) }
+    {
+        fits(&self.plan, &self.sides, p, event)
     }
 
     /// Whether the next event of `p` is enabled.
