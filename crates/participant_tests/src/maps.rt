@@ -34,7 +34,8 @@ fn map_plan(projection: bool, conservative: bool) -> MapPlan {
     }
 }
 
-/// A field of one component, mapped. The sizes are the right ones in each test, as are the dimensions.
+/// A field of one component, mapped. The sizes are the right ones in each
+/// test, as are the dimensions, and no mesh is empty.
 fn mapped(
     alloc: Global,
     plan: &MapPlan,
@@ -43,6 +44,12 @@ fn mapped(
     units: &[i128],
 ) -> Result<Field, FieldRefusal> {
     if from.dimensions() != to.dimensions() {
+        return Err(FieldRefusal::Memory);
+    }
+    if from.len() == 0 {
+        return Err(FieldRefusal::Memory);
+    }
+    if to.len() == 0 {
         return Err(FieldRefusal::Memory);
     }
     let map = WaveMap::build(alloc, plan, from, to)?;
@@ -109,6 +116,12 @@ fn mapped_wave(
     whole: bool,
 ) -> Result<Wave, WaveRefusal> {
     if from.dimensions() != to.dimensions() {
+        return Err(WaveRefusal::Memory);
+    }
+    if from.len() == 0 {
+        return Err(WaveRefusal::Memory);
+    }
+    if to.len() == 0 {
         return Err(WaveRefusal::Memory);
     }
     let map = WaveMap::build(alloc, plan, from, to)?;

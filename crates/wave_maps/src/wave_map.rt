@@ -28,8 +28,7 @@ pub enum WaveMap {
 }
 
 impl WaveMap {
-    /// The mapping of a plan, from one mesh to another of as many dimensions. An empty mesh is told as
-    /// `Memory`.
+    /// The mapping of a plan, from one mesh to another of as many dimensions, neither of them empty.
     pub fn build(
         alloc: Global,
         map: &MapPlan,
@@ -37,6 +36,8 @@ impl WaveMap {
         to: &AnyMesh,
     ) -> Result<WaveMap, Memory>
         requires alike { dimensions_of from.now ≡ dimensions_of to.now }
+        requires some_from { 1 ≤ length (vertices_of from.now) }
+        requires some_to { 1 ≤ length (vertices_of to.now) }
         ensures mapped { IfOk result (λ m. (field : AField)
             → mapped_with m field ≡ mapped_by map.now (vertices_of from.now) (vertices_of to.now) field) }
         ensures sources { IfOk result (λ m. sources_of m ≡ length (vertices_of from.now)) }

@@ -1,0 +1,14 @@
+pub mod CanBeSent
+pub mod ExchangeMade
+pub mod FirstMapped
+pub mod KnownPoints
+pub mod Made
+pub mod NumbersMore
+pub mod PlacesFound
+pub mod PlanSays
+pub mod PostRefused
+pub mod SendsMean
+pub mod TakesMean
+pub mod Told
+pub mod ValuesFound
+pub mod WatchPlaces

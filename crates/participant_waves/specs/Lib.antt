@@ -1,0 +1,11 @@
+pub mod KnownMeshes
+pub mod Passages
+pub mod Refusals
+pub mod SendsStand
+pub mod SentWaves
+pub mod Written
+pub mod FirstMapped
+pub mod TakenWaves
+pub mod TakesStand
+pub mod TakingKept
+pub mod WatchesStand
