@@ -1,0 +1,5 @@
+pub mod LineParts
+pub mod ToldMeshes
+pub mod RigsMade
+pub mod ValuesFit
+pub mod RigsFit
