@@ -83,9 +83,52 @@ impl OwnMeshes {
         ensures added { OnOk result (self.new ≡ at_place (with_points coordinates.now) place self.old) }
         ensures unchanged { OnErr result (self.new ≡ self.old) }
     {
-        let longer = with_points(alloc, &self.meshes[place], coordinates)?;
-        self.meshes[place] = longer;
+        extend(alloc, &mut self.meshes[place], coordinates)?;
         Ok(())
+    }
+}
+
+/// Adds the points of these coordinates at the end of a mesh, or none of them. One is put in place, so that
+/// vertices can be set one by one.
+fn extend(alloc: Global, mesh: &mut AnyMesh, coordinates: &[i64]) -> Result<(), Memory>
+    requires coordinates { All IsCoordinate coordinates.now }
+    requires points { TakesPoints coordinates.now mesh.old }
+    ensures added { OnOk result (mesh.new ≡ with_points coordinates.now mesh.old) }
+    ensures unchanged { OnErr result (mesh.new ≡ mesh.old) }
+{
+    if coordinates.len() == mesh.dimensions() {
+        return add_point(mesh, coordinates);
+    }
+    let longer = with_points(alloc, mesh, coordinates)?;
+    *mesh = longer;
+    Ok(())
+}
+
+/// Adds one vertex at the end of a mesh, in place.
+fn add_point(mesh: &mut AnyMesh, point: &[i64]) -> Result<(), Memory>
+    requires coordinates { All IsCoordinate point.now }
+    requires one { length point.now ≡ dimensions_of mesh.old }
+    requires room { TakesPoints point.now mesh.old }
+    ensures added { OnOk result (mesh.new ≡ with_points point.now mesh.old) }
+    ensures unchanged { OnErr result (mesh.new ≡ mesh.old) }
+{
+    match mesh {
+        AnyMesh::Two(mesh) => add_first(mesh, point.as_chunks().0),
+        AnyMesh::Three(mesh) => add_first(mesh, point.as_chunks().0),
+    }
+}
+
+/// Adds the one point of a list at the end of a mesh. It is such as the mesh can take, so that nothing but
+/// want of memory refuses it.
+fn add_first<const D: usize>(mesh: &mut Mesh<D>, points: &[[i64; D]]) -> Result<(), Memory>
+    requires dimensions { IsDimension D }
+    requires one { length points.now ≡ 1 }
+    ensures added { OnOk result (mesh.new ≡ mesh.old ++ points.now) }
+    ensures unchanged { OnErr result (mesh.new ≡ mesh.old) }
+{
+    match mesh.push_vertex(points[0]) {
+        Ok(_) => Ok(()),
+        Err(_) => Err(Memory),
     }
 }
 

@@ -43,8 +43,13 @@ impl WriteTable {
 
     /// How many entries there are.
     pub fn len(&self) -> usize
-        ensures { result ≡ length self.now }
+        ensures count { result ≡ length self.now }
+        ensures shapes { All AreSamples self.now }
     {
+        // Each entry tells the shape of its samples.
+        for i in 0..self.entries.len() {
+            let _samples = self.entries[i].samples();
+        }
         self.entries.len()
     }
 

@@ -1,12 +1,11 @@
 -- What is kept of the entries that a participant writes can be sent: the entry is there, and its samples have values for the vertices that are mapped from.
-use Rattle.std.proofs.Common.{◌≡◌, ℕ, ◌*◌, ◌<◌, ◌≤◌, nat_eq, List, [], ◌∷◌, length, map, get_or, slice_get, Option, None, Some, IfSome, All, refl, ap, sym, subst, ◌∙◌, arith, mul_comm}
+use Rattle.std.proofs.Common.{◌≡◌, ℕ, ◌*◌, ◌≤◌, nat_eq, List, [], ◌∷◌, length, get_or, Option, None, Some, IfSome, All, refl, ap, sym, subst, ◌∙◌, arith, mul_comm}
 use Rattle.std.specs.Option.{option_map_or}
 use Rattle.std.proofs.lemmas.Bool.{and_parts, eqb-true}
 use Rattle.std.proofs.lemmas.List.{get_or-map}
 use Rattle.std.proofs.lemmas.List.Elements.{All-cons, All-contains}
 use Rattle.std.proofs.lemmas.Option.{get_or_from_slice_get, slice_get_within}
 use Rattle.waveform.specs.Shape.{IsLike}
-use Rattle.waveform.specs.declared.field.Field.{Field}
 use Rattle.waveform.specs.declared.sample.Sample.{Sample}
 use Rattle.cpl_plan.specs.declared.parts.PlanParts.{PlanParts}
 use Rattle.cpl_plan.specs.declared.parts.PlanEntry.{PlanEntry}
@@ -22,7 +21,7 @@ use Rattle.participant_waves.specs.declared.sending.Sending.{Sending}
 use Rattle.participant_waves.specs.declared.sends.Sends.{Sends}
 use Rattle.participant_waves.specs.SendsStand.{IsSending, AreSends, CanSend, CanSendInitial}
 use Rattle.participant_waves.specs.Written.{AreEntries, AreWritten}
-use Rattle.participant_waves.proofs.SendsMean.{entry_sent, place, many, kept, components_kept, lengths}
+use Rattle.participant_waves.proofs.SendsMean.{entry_sent, place, kept, components_kept, lengths}
 
 module _ (plan : PlanParts) (part : ℕ) (known : Known) (writes : List WriteKept) (entries : AreEntries plan part known writes) (s : Sending) (is : IsSending plan part known s) where
   abbrev points : ℕ

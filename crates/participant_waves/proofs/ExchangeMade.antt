@@ -1,23 +1,17 @@
 -- An exchange with its mapping stands for the plan's, once its meshes are found and its mapping is made of them.
-use Rattle.std.proofs.Common.{◌≡◌, ℕ, ◌<◌, List, length, position, slice_get, Option, Some, subst, ap, sym, ◌∙◌}
+use Rattle.std.proofs.Common.{◌≡◌, ℕ, length, slice_get, Option, Some, subst, ap, sym, ◌∙◌}
 use Rattle.std.proofs.lemmas.Option.{same_Some, slice_get_within}
-use Rattle.cpl_plan.specs.PlanWords.{components_on}
 use Rattle.cpl_plan.specs.declared.parts.PlanParts.{PlanParts}
 use Rattle.cpl_plan.specs.declared.parts.Exchange.{Exchange}
 use Rattle.cpl_plan.specs.declared.parts.MapPlan.{MapPlan}
-use Rattle.mesh_data.specs.AnyMeshes.{dimensions_of, vertices_of}
+use Rattle.mesh_data.specs.AnyMeshes.{vertices_of}
 use Rattle.mesh_data.specs.declared.any_mesh.AnyMesh.{AnyMesh}
 use Rattle.wave_coupling.specs.Posts.{Wave}
 use Rattle.wave_coupling.specs.Mapped.{mapped_wave}
-use Rattle.wave_coupling.specs.Known.{Known, map_at, points_of, read_mesh, serves, write_entries, write_mesh}
+use Rattle.wave_coupling.specs.Known.{Known, map_at, points_of, read_mesh}
 use Rattle.wave_maps.specs.declared.wave_map.WaveMap.{WaveMap}
-use Rattle.wave_values.proofs.Served.{components_joined}
-use Rattle.participant_waves.specs.KnownMeshes.{IsMeshOf}
 use Rattle.participant_waves.specs.Passages.{HasSources, through}
-use Rattle.participant_waves.specs.TakingKept.{TakingKept}
 use Rattle.participant_waves.specs.TakesStand.{IsTaking}
-use Rattle.participant_waves.specs.SendsStand.{IsSending}
-use Rattle.participant_waves.proofs.PlanSays.{ToReader, ToSender, joined_alike}
 
 -- the mapping of a plan, between meshes as they are found
 module _ (plan : PlanParts) (part : ℕ) (known : Known) (o place : Option MapPlan) (same : place ≡ o) (from to mesh : ℕ) (a b : AnyMesh) (is_from : mesh ≡ from)

@@ -1,5 +1,5 @@
 -- The first field of a mapped wave is the first field of the wave, mapped.
-use Rattle.std.proofs.Common.{◌≡◌, ℕ, ◌<◌, ◌≤◌, List, length, get_or, Result, Ok, Err, Some, ap, sym, ◌∙◌, arith}
+use Rattle.std.proofs.Common.{◌≡◌, ℕ, ◌≤◌, length, get_or, Result, Ok, Err, Some, ap, sym, ◌∙◌, arith}
 use Rattle.std.specs.List.{slice_get}
 use Rattle.waveform.specs.declared.field.Field.{Field}
 use Rattle.waveform.specs.declared.sample.Sample.{Sample}

@@ -1,10 +1,10 @@
 -- The points of a mesh that a participant provides, or receives, are those of the mesh that stands at its place.
-use Rattle.std.proofs.Common.{◌≡◌, ◌⊎◌, inl, inr, ℕ, ◌+◌, ◌<◌, Bool, true, false, nat_eq, List, [], ◌∷◌, length, map, zip, get_or, slice_get, replicate, Option, Some, None, is_some, position, Contains, refl, ap, sym, subst, ◌∙◌, arith, zero, suc, unwrap_or}
+use Rattle.std.proofs.Common.{◌≡◌, inl, inr, ℕ, ◌+◌, ◌<◌, true, nat_eq, List, [], ◌∷◌, length, zip, slice_get, Option, Some, None, is_some, position, Contains, refl, ap, sym, subst, ◌∙◌, arith, zero, suc, unwrap_or}
 use Rattle.std.specs.Prelude.{option_map, option_and_then}
 use Rattle.std.specs.Option.{option_map_or}
 use Rattle.std.proofs.lemmas.Bool.{eq-eqb, false≢true}
-use Rattle.std.proofs.lemmas.Option.{slice_get-map, slice_get-get_or, slice_get_within, get_or_from_slice_get, same_Some}
-use Rattle.cpl_plan.specs.PlanWords.{provides, receives, passes, is_among}
+use Rattle.std.proofs.lemmas.Option.{slice_get-map, same_Some}
+use Rattle.cpl_plan.specs.PlanWords.{passes, is_among}
 use Rattle.cpl_plan.specs.ValidPlan.{IsValidPlan}
 use Rattle.cpl_plan.specs.declared.parts.PlanParts.{PlanParts}
 use Rattle.cpl_plan.specs.declared.parts.Part.{Part}
@@ -13,9 +13,9 @@ use Rattle.cpl_plan.proofs.Readings.{passes_at, among_in}
 use Rattle.cpl_plan.proofs.Owners.{owner_alone}
 use Rattle.mesh_data.specs.AnyMeshes.{vertices_of}
 use Rattle.mesh_data.specs.declared.any_mesh.AnyMesh.{AnyMesh}
-use Rattle.wave_coupling.specs.Known.{Known, own_mesh, points_of, provided_by, received_mesh, received_meshes}
+use Rattle.wave_coupling.specs.Known.{own_mesh, points_of, provided_by, received_mesh, received_meshes}
 use Rattle.participant_words.specs.KnownByReply.{known_by, owners_meshes, place_at_owner}
-use Rattle.participant_waves.specs.KnownMeshes.{AreMeshesOf, HasMeshes, IsMeshOf, IsKnownTo}
+use Rattle.participant_waves.specs.KnownMeshes.{HasMeshes, IsMeshOf, IsKnownTo}
 use Rattle.participant_waves.proofs.PlacesFound.{found_there, place_there, at_its_place, got_replicate}
 
 got_zip : {X Y : Type 0} (xs : List X) (ys : List Y) (i : ℕ) (x : X) (y : Y) → slice_get xs i ≡ Some x → slice_get ys i ≡ Some y → slice_get (zip xs ys) i ≡ Some (x, y)
@@ -26,7 +26,7 @@ got_zip (z ∷ xs) (v ∷ ys) (suc i) x y one other = got_zip xs ys i x y one ot
 
 module _ (plan : PlanParts) (part : ℕ) (p : Part) (at : slice_get plan.parts part ≡ Some p) where
   -- a mesh that the participant provides, or receives, has a place
-  place_of : (field : Part → List ℕ) (mesh : ℕ) → passes plan.parts part (λ q. is_among mesh (field q)) ≡ true → is_some (position (nat_eq mesh) (field p)) ≡ true
+  pub place_of : (field : Part → List ℕ) (mesh : ℕ) → passes plan.parts part (λ q. is_among mesh (field q)) ≡ true → is_some (position (nat_eq mesh) (field p)) ≡ true
   place_of field mesh is =
       let found = passes_at plan.parts part (λ q. is_among mesh (field q)) is in
       let same : found.0 ≡ p = same_Some found.0 p (sym found.1 ∙ at) in

@@ -1,5 +1,6 @@
 pub mod CanBeSent
 pub mod ExchangeMade
+pub mod FilteredMore
 pub mod FirstMapped
 pub mod KnownPoints
 pub mod Made
@@ -7,8 +8,11 @@ pub mod NumbersMore
 pub mod PlacesFound
 pub mod PlanSays
 pub mod PostRefused
+pub mod RowsMean
 pub mod SendsMean
+pub mod StepsKept
 pub mod TakesMean
 pub mod Told
 pub mod ValuesFound
 pub mod WatchPlaces
+pub mod WatchedRows

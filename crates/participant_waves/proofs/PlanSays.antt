@@ -1,11 +1,11 @@
 -- What a valid plan says of an exchange to the participant that sends it, and to the one that reads it: its meshes are known there, its entry is there, and the mapping goes between meshes of as many dimensions.
-use Rattle.std.proofs.Common.{◌≡◌, ◌⊎◌, inl, inr, ℕ, ◌<◌, Bool, true, false, ◌&&◌, ◌||◌, nat_eq, nat_lt, List, [], length, slice_get, Option, Some, None, is_some, position, Contains, refl, ap, sym, subst, ◌∙◌, arith}
-use Rattle.std.specs.Prelude.{option_map, option_and_then}
+use Rattle.std.proofs.Common.{◌≡◌, inl, inr, ℕ, ◌<◌, true, ◌&&◌, nat_eq, nat_lt, List, [], length, slice_get, Option, Some, None, is_some, position, Contains, refl, ap, sym, subst, ◌∙◌}
+use Rattle.std.specs.Prelude.{option_map}
 use Rattle.std.specs.List.{list_all}
 use Rattle.std.specs.Option.{option_map_or}
 use Rattle.std.proofs.lemmas.Bool.{and_parts, and_from, or_cases, eqb-true, eq-eqb, ltb-true}
 use Rattle.std.proofs.lemmas.Option.{slice_get_within, same_Some}
-use Rattle.cpl_plan.specs.PlanWords.{provides, receives, passes, is_among, mesh_carries, components, components_on, have_equal_dimensions}
+use Rattle.cpl_plan.specs.PlanWords.{provides, receives, passes, is_among, mesh_carries}
 use Rattle.cpl_plan.specs.PlanTests.{goes_over}
 use Rattle.cpl_plan.specs.ValidPlan.{IsValidPlan}
 use Rattle.cpl_plan.specs.declared.parts.PlanParts.{PlanParts}
@@ -13,14 +13,13 @@ use Rattle.cpl_plan.specs.declared.parts.Part.{Part}
 use Rattle.cpl_plan.specs.declared.parts.PlanEntry.{PlanEntry}
 use Rattle.cpl_plan.specs.declared.parts.MapPlan.{MapPlan}
 use Rattle.cpl_plan.specs.declared.parts.MeshPlan.{MeshPlan}
-use Rattle.cpl_plan.specs.declared.parts.DataPlan.{DataPlan}
 use Rattle.cpl_plan.specs.declared.parts.Exchange.{Exchange}
 use Rattle.cpl_plan.proofs.Readings.{each_at, passes_at, among_in}
 use Rattle.core_laws.proofs.Steps.{all_tell}
 use Rattle.mesh_data.specs.AnyMeshes.{dimensions_of}
 use Rattle.mesh_data.specs.declared.any_mesh.AnyMesh.{AnyMesh}
-use Rattle.wave_coupling.specs.Known.{map_at, read_entries, read_mesh, serves, write_entries, write_mesh}
-use Rattle.wave_values.proofs.Served.{Joins, start_is, end_is, components_joined, written_for, read_for}
+use Rattle.wave_coupling.specs.Known.{map_at, read_mesh, serves, write_entries, write_mesh}
+use Rattle.wave_values.proofs.Served.{Joins, start_is, end_is, written_for, read_for}
 use Rattle.participant_waves.specs.KnownMeshes.{IsMeshOf, IsKnownTo}
 use Rattle.participant_waves.proofs.PlacesFound.{found_there}
 

@@ -1,5 +1,5 @@
 -- What is posted by what is kept of the exchanges that are sent is what is posted of the plan.
-use Rattle.std.proofs.Common.{◌≡◌, ℕ, ◌*◌, ◌<◌, Bool, true, false, nat_eq, if◌then◌else◌, List, [], ◌∷◌, length, map, get_or, slice_get, replicate, Option, None, Some, Result, Ok, Err, All, ℤ, pos, refl, ap, sym, subst, ◌∙◌, arith, mul_comm}
+use Rattle.std.proofs.Common.{◌≡◌, ℕ, ◌*◌, ◌<◌, Bool, true, false, nat_eq, if◌then◌else◌, List, [], ◌∷◌, length, map, get_or, slice_get, replicate, Option, None, Some, Result, Ok, Err, ℤ, pos, refl, ap, sym, ◌∙◌, arith, mul_comm}
 use Rattle.std.specs.List.{flat_map}
 use Rattle.std.specs.Option.{option_map_or}
 use Rattle.std.proofs.lemmas.List.{ext_get_or, get_or-map, length-map}
@@ -7,17 +7,15 @@ use Rattle.std.proofs.lemmas.List.Elements.{All-contains}
 use Rattle.std.proofs.lemmas.List.Quantifiers.{position-Some}
 use Rattle.std.proofs.lemmas.Bool.{and_parts, eqb-true}
 use Rattle.cpl_plan.proofs.Readings.{there}
-use Rattle.std.proofs.lemmas.Option.{same_Some, slice_get-get_or, get_or_from_slice_get}
+use Rattle.std.proofs.lemmas.Option.{same_Some, get_or_from_slice_get}
 use Rattle.std.proofs.lemmas.Simd.{map-map}
-use Rattle.waveform.specs.declared.field.Field.{Field}
 use Rattle.waveform.specs.declared.sample.Sample.{Sample}
 use Rattle.waveform.proofs.Places.{no_sample}
 use Rattle.cpl_plan.specs.PlanWords.{components_on, components_of}
 use Rattle.cpl_plan.specs.declared.parts.PlanParts.{PlanParts}
 use Rattle.cpl_plan.specs.declared.parts.PlanEntry.{PlanEntry}
-use Rattle.cpl_plan.specs.declared.parts.Exchange.{Exchange}
 use Rattle.cpl_plan.specs.declared.words.Fault.{Fault}
-use Rattle.wave_coupling.specs.Posts.{Wave, Post, sent}
+use Rattle.wave_coupling.specs.Posts.{Wave, sent}
 use Rattle.wave_coupling.specs.Mapped.{OutOfRange, all_or_first, mapped_wave}
 use Rattle.wave_coupling.specs.Noted.{Written}
 use Rattle.wave_coupling.specs.Known.{Known, map_at, points_of, serves, width_of, write_entries, write_mesh}
@@ -31,6 +29,7 @@ use Rattle.participant_waves.specs.declared.sends.Sends.{Sends}
 use Rattle.participant_waves.specs.SendsStand.{IsSending, AreSends}
 use Rattle.participant_waves.specs.SentWaves.{chosen, field_at, no_field, initial_sent, initial_wave_sent, samples_of, sent_or_fault, turn_sent, wave_sent, zeros_sent}
 use Rattle.participant_waves.specs.Written.{AreEntries, AreWritten}
+use Rattle.participant_waves.proofs.StepsKept.{many as many_kept, steps_kept, widths_kept}
 use Rattle.participant_waves.proofs.ValuesFound.{same_entry, values_found}
 
 -- of one sample all and the last are that
@@ -57,10 +56,7 @@ module _ (plan : PlanParts) (part : ℕ) (known : Known) where
 
     -- the entry that is kept at its place
     pub many : length writes ≡ length (write_entries plan part)
-    many =
-        let one = length-map writes (λ (e : WriteKept). Some e.components) in
-        let other = length-map (write_entries plan part) (λ (entry : PlanEntry). components_on plan entry.data_id entry.mesh) in
-        sym one ∙ ap length entries.components ∙ other
+    many = many_kept plan part known writes entries
 
     pub kept : (e : WriteKept) × (slice_get writes s.entry ≡ Some e)
     kept = there writes s.entry (omega (arith, many, place.0))
@@ -106,21 +102,7 @@ module _ (plan : PlanParts) (part : ℕ) (known : Known) where
 
     module _ (written : List Written) (turn : AreWritten plan part known written writes) where
       pub lengths : length kept.0.samples ≡ length written
-      lengths =
-          sym (length-map kept.0.samples (λ (one : Sample). one.time))
-          ∙ ap length (All-contains (λ (e : WriteKept). map (λ one. one.time) e.samples ≡ map (λ one. one.time) written) writes kept.0 turn.times (slice_in writes s.entry kept.0 kept.1))
-          ∙ length-map written (λ (one : Written). one.time)
-
-      step_widths : (step : ℕ) → step < length written
-          → map (λ (e : WriteKept). length (get_or e.samples step no_sample).field.values) writes ≡ map (width_of plan part known) (write_entries plan part)
-      step_widths step within =
-          map_same (λ (e : WriteKept). length (get_or e.samples step no_sample).field.values) (λ (e : WriteKept). length e.values) writes
-          (λ e inside.
-          let times = All-contains (λ (e : WriteKept). map (λ one. one.time) e.samples ≡ map (λ one. one.time) written) writes e turn.times inside in
-          let long : length e.samples ≡ length written = sym (length-map e.samples (λ (one : Sample). one.time)) ∙ ap length times ∙ length-map written (λ (one : Written). one.time) in
-          let alike = (All-contains AreSamples writes e turn.shapes inside).alike step no_sample (omega (arith, long, within)) in
-          alike.len)
-          ∙ turn.entries.widths
+      lengths = steps_kept plan part known writes written turn kept.0 (slice_in writes s.entry kept.0 kept.1)
 
       -- the samples of the entry are what is written of the exchange
       sample_is : (step : ℕ) → step < length written → sample_of plan part known s.sent (get_or written step no_writes) ≡ get_or kept.0.samples step no_sample
@@ -135,7 +117,7 @@ module _ (plan : PlanParts) (part : ℕ) (known : Known) where
           let components : components_of plan s.sent ≡ (get_or kept.0.samples step no_sample).field.components = components_sent ∙ sym alike.components in
           let values : values_at plan part known (write_entries plan part) entry_sent (get_or written step no_writes).values ≡ (get_or kept.0.samples step no_sample).field.values =
           ap (values_at plan part known (write_entries plan part) entry_sent) (turn.values step no_writes within)
-          ∙ values_sent (λ (e : WriteKept). (get_or e.samples step no_sample).field.values) (step_widths step within) in
+          ∙ values_sent (λ (e : WriteKept). (get_or e.samples step no_sample).field.values) (widths_kept plan part known writes written turn step within) in
           λ i. record { time = time i; field = record { components = components i; values = values i } }
 
       samples_written : map (sample_of plan part known s.sent) written ≡ kept.0.samples

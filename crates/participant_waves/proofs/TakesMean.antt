@@ -1,5 +1,5 @@
 -- What is read in a turn by what is kept of the exchanges that are received is what is read of the plan.
-use Rattle.std.proofs.Common.{◌≡◌, ℕ, List, [], ◌∷◌, map, zip, slice_get, Option, Some, Result, Ok, Err, All, refl, ap, sym, subst, ◌∙◌}
+use Rattle.std.proofs.Common.{◌≡◌, ℕ, List, [], ◌∷◌, map, zip, slice_get, Option, Some, Result, Ok, Err, All, refl, ap, sym, ◌∙◌}
 use Rattle.std.proofs.lemmas.List.Elements.{All-head, All-tail}
 use Rattle.cpl_plan.specs.declared.parts.PlanParts.{PlanParts}
 use Rattle.cpl_plan.specs.declared.parts.Exchange.{Exchange}

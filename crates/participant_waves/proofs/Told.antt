@@ -1,5 +1,5 @@
 -- What is told of an entry at its place is what is told of the entry that is sent.
-use Rattle.std.proofs.Common.{◌≡◌, ℕ, ◌≤◌, List, [], length, slice_get, Option, None, Some, IfSome, sym, subst}
+use Rattle.std.proofs.Common.{◌≡◌, Option, None, Some, IfSome, subst}
 use Rattle.std.specs.Option.{option_map, option_map_or}
 use Rattle.std.proofs.lemmas.Option.{none-some, same_Some}
 

@@ -9,3 +9,7 @@ pub mod TakenWaves
 pub mod TakesStand
 pub mod TakingKept
 pub mod WatchesStand
+pub mod PassagesStand
+pub mod Readable
+pub mod RowsKept
+pub mod CanShow

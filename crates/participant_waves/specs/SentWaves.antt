@@ -2,7 +2,6 @@
 use Rattle.std.specs.Prelude.{ℕ, ◌-◌, ◌*◌, Bool, if◌then◌else◌, List, [], ◌∷◌, map, drop, length, replicate, slice_get, Option, Some, Result, Ok, Err, pos}
 use Rattle.std.specs.Option.{option_map_or}
 use Rattle.waveform.specs.declared.field.Field.{Field}
-use Rattle.waveform.specs.declared.sample.Sample.{Sample}
 use Rattle.cpl_plan.specs.declared.words.Fault.{Fault}
 use Rattle.cpl_plan.specs.declared.words.Fault.TheVariants.{WriteMap}
 use Rattle.wave_coupling.specs.Posts.{Wave, Post}

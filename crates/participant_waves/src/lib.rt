@@ -2,23 +2,31 @@
 //! what its watch-points show.
 //!
 //! [`Sends`] has what is sent and [`Takes`] what is received; both are made from the plan and the meshes
-//! that the participant knows. [`Watches`] has what is looked up once for the rows of watch-points.
+//! that the participant knows. [`Watches`] gives the rows of watch-points. [`Passages`]
+//! has all that is made once.
 #![tactic(auto)]
 
+mod arrivals;
 mod copies;
+pub mod kept_input;
 mod known_meshes;
 pub mod laws;
 mod nearest;
 pub mod no_waves;
+pub mod passages;
 pub mod sending;
 pub mod sends;
+mod shown;
 pub mod takes;
 pub mod taking;
 mod through;
 pub mod watches;
 
+pub use arrivals::vertices_of_exchange;
+pub use kept_input::KeptInput;
 pub use laws::what_is_written_can_be_sent;
 pub use no_waves::{NoPost, NoTake};
+pub use passages::Passages;
 pub use sending::Sending;
 pub use sends::Sends;
 pub use takes::Takes;

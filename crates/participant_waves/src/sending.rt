@@ -172,7 +172,7 @@ impl Sending {
 }
 
 /// The place of the first entry of these data on this mesh, if it is there.
-fn place_of(entries: &[PlanEntry], data_id: DataId, mesh: MeshId) -> Option<usize>
+pub(crate) fn place_of(entries: &[PlanEntry], data_id: DataId, mesh: MeshId) -> Option<usize>
     ensures { result ≡ position (λ (entry : AnEntry). nat_eq entry.data_id data_id && nat_eq entry.mesh mesh) entries.now }
 {
     entries

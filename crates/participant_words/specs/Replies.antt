@@ -1,5 +1,5 @@
 -- Which reply may come to the event that is out, and what of it is answered as an error. The replies are the project's own.
-use Rattle.std.specs.Prelude.{◌≡◌, ℕ, ◌*◌, ◌<◌, ◌⊎◌, List, length, slice_get, Option, Some, None, option_map, option_and_then}
+use Rattle.std.specs.Prelude.{◌≡◌, ℕ, ◌*◌, ◌<◌, ◌≤◌, ◌⊎◌, List, length, slice_get, Option, Some, None, option_map, option_and_then}
 use Rattle.std.specs.Option.{option_map_or}
 use Rattle.cpl_plan.specs.PlanWords.{components_of}
 use Rattle.cpl_plan.specs.declared.parts.PlanParts.{PlanParts}
@@ -43,9 +43,11 @@ module _ (plan : PlanParts) (part : ℕ) (c : Course) where
     pub lengths : (i : ℕ) (sample : Sample) → slice_get wave i ≡ Some sample → IsOfExchange e sample
     pub span : (length wave ≡ 1) ⊎ ((first_time wave ≡ start) × (last_time wave ≡ end))
 
-  -- one input for each exchange that the participant receives, in order
+  -- one input for each exchange that the participant receives, in order, over a window that ends in time
   pub record AreInputs (inputs : List Input) : Type 0 where
     pub count : length inputs ≡ length (received plan part)
+    pub begins : c.turn.start ≤ latest_of plan part c.turn (newest_input_time inputs)
+    pub ends : latest_of plan part c.turn (newest_input_time inputs) ≤ plan.end_time
     pub each : (i x : ℕ) (e : Exchange) (input : Input) → slice_get (received plan part) i ≡ Some x → slice_get plan.exchanges x ≡ Some e
         → slice_get inputs i ≡ Some input
         → IsInput c.turn.start (latest_of plan part c.turn (newest_input_time inputs)) e input.wave

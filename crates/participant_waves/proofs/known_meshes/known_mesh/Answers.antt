@@ -1,6 +1,5 @@
-use Rattle.std.proofs.Common.{◌≡◌, ℕ, ◌<◌, List, length, nat_eq, position, slice_get, Option, Some, None, is_some, refl, ap, sym, ◌∙◌}
+use Rattle.std.proofs.Common.{◌≡◌, ℕ, List, length, nat_eq, position, Option, Some, None, is_some, refl, ap, sym, ◌∙◌}
 use Rattle.std.proofs.lemmas.Option.{slice_get_read}
-use Rattle.mesh_data.specs.declared.any_mesh.AnyMesh.{AnyMesh}
 use Rattle.participant_waves.proofs.KnownPoints.{received_place, own_within, own_points, own_of_plan, received_within, received_of_plan, received_points}
 use Rattle.participant_waves.proofs.known_meshes.known_mesh.Goals as goal
 

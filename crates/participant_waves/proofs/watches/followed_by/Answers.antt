@@ -1,4 +1,4 @@
-use Rattle.std.proofs.Common.{◌≡◌, List, ℤ, ap, sym, subst, ◌∙◌}
+use Rattle.std.proofs.Common.{List, ℤ, sym, subst}
 use Rattle.mesh_data.specs.AnyMeshes.{dimensions_of, vertices_of}
 use Rattle.mesh_data.specs.Nearest.{IsNearest}
 use Rattle.mesh_data.specs.Points.{IsPoint}

@@ -6,6 +6,6 @@ use Rattle.participant_tables.proofs.own_meshes.OwnMeshes.add_points.Goals as go
 
 pub returns-clause-added : goal.returns-clause-added
 returns-clause-added c =
-    changed-one (with_points c.args.coordinates.now) c.self.inside.meshes.items c.args.place c.index.result.now c.in_ok-longer.longer
-    (c.in_ok-longer.ensures ∙ ap (with_points c.args.coordinates.now) c.index.ensures)
+    changed-one (with_points c.args.coordinates.now) c.self.inside.meshes.items c.args.place c.index_mut.result.now c.extend.new.mesh
+    (c.in_ok-extend.ensures.added ∙ ap (with_points c.args.coordinates.now) c.index_mut.ensures.value)
     ∙ ap (at_place (with_points c.args.coordinates.now) c.args.place) c.self.view_is

@@ -1,7 +1,7 @@
-use Rattle.std.proofs.Common.{◌≡◌, List, [], ◌∷◌, slice_get, Ok, sym, subst}
+use Rattle.std.proofs.Common.{◌≡◌, [], ◌∷◌, slice_get, Ok, sym, subst}
 use Rattle.std.specs.Result.{IfOk, IfErr}
 use Rattle.waveform.specs.declared.field.Field.{Field}
-use Rattle.participant_tables.specs.WriteKept.{WriteKept, field_of}
+use Rattle.participant_tables.specs.WriteKept.{field_of}
 use Rattle.participant_waves.specs.Passages.{CanPass}
 use Rattle.participant_waves.specs.SentWaves.{initial_wave_sent, no_field}
 use Rattle.participant_waves.specs.Refusals.{IsNoPost}

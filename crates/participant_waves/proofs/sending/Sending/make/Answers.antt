@@ -1,4 +1,4 @@
-use Rattle.std.proofs.Common.{◌≡◌, length, ap, sym, subst, ◌∙◌}
+use Rattle.std.proofs.Common.{length, ap, sym, subst, ◌∙◌}
 use Rattle.wave_coupling.specs.Known.{map_at, write_mesh}
 use Rattle.wave_values.proofs.Served.{components_joined}
 use Rattle.participant_words.specs.KnownByReply.{known_by}

@@ -3,7 +3,7 @@ use Rattle.std.specs.Result.{IfOk, IfErr}
 use Rattle.waveform.specs.declared.sample.Sample.{Sample}
 use Rattle.participant_tables.specs.WriteKept.{WriteKept}
 use Rattle.participant_waves.specs.Passages.{CanPass}
-use Rattle.participant_waves.specs.SentWaves.{samples_of, wave_sent}
+use Rattle.participant_waves.specs.SentWaves.{wave_sent}
 use Rattle.participant_waves.specs.Refusals.{IsNoPost}
 use Rattle.participant_waves.proofs.Told.{told_or, told_holds}
 use Rattle.participant_waves.proofs.sending.Sending.turn_wave.Goals as goal

@@ -6,7 +6,6 @@ use Rattle.wave_coupling.specs.Known.{Known}
 use Rattle.wave_coupling.specs.Noted.{Written}
 use Rattle.wave_coupling.specs.Posts.{Post}
 use Rattle.wave_coupling.specs.PostedWaves.{post_of}
-use Rattle.participant_waves.specs.declared.no_waves.NoPost.{NoPost}
 use Rattle.participant_waves.specs.SendsStand.{AreSends}
 use Rattle.participant_waves.specs.SentWaves.{turn_sent}
 use Rattle.participant_waves.specs.Written.{AreWritten}

@@ -1,4 +1,4 @@
-use Rattle.std.proofs.Common.{◌≡◌, ◌<◌, List, length, get_or, arith, ap, ◌∙◌}
+use Rattle.std.proofs.Common.{◌<◌, List, length, get_or, arith, ap, ◌∙◌}
 use Rattle.participant_waves.specs.declared.sending.Sending.{Sending}
 use Rattle.participant_waves.specs.SentWaves.{samples_of, wave_sent}
 use Rattle.participant_waves.proofs.Made.{more}

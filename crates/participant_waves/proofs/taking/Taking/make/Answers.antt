@@ -1,8 +1,7 @@
-use Rattle.std.proofs.Common.{◌≡◌, length, refl, ap, sym, subst, ◌∙◌}
+use Rattle.std.proofs.Common.{refl, ap, sym, subst, ◌∙◌}
 use Rattle.wave_coupling.specs.Known.{map_at, points_of, read_mesh}
 use Rattle.participant_words.specs.KnownByReply.{known_by}
 use Rattle.participant_waves.specs.KnownMeshes.{IsMeshOf, IsKnownTo}
-use Rattle.participant_waves.specs.Passages.{HasSources}
 use Rattle.participant_waves.proofs.PlanSays.{reader_told, joined_alike}
 use Rattle.participant_waves.proofs.ExchangeMade.{sources_made, mapped_made, taking_is}
 use Rattle.participant_waves.proofs.taking.Taking.make.Goals as goal

@@ -1,4 +1,4 @@
-use Rattle.std.proofs.Common.{◌≡◌, ◌≤◌, Option, Some, length, arith, ap, sym, subst, ◌∙◌}
+use Rattle.std.proofs.Common.{◌≤◌, Option, Some, length, arith, ap, sym, subst, ◌∙◌}
 use Rattle.wave_maps.specs.declared.wave_map.WaveMap.{WaveMap}
 use Rattle.participant_waves.specs.FirstMapped.{IsFirstOf}
 use Rattle.participant_waves.proofs.FirstMapped.{first_is}
