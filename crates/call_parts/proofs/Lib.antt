@@ -1,0 +1,5 @@
+mod BadCoordinates
+mod JoinKept
+pub mod RowsPut
+mod InputsSoFar
+pub mod Latest

@@ -1,0 +1,3 @@
+pub mod Listening
+pub mod InputLengths
+pub mod RowsKept
