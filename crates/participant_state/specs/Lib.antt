@@ -1,0 +1,5 @@
+pub mod Member
+pub mod Kept
+pub mod Together
+pub mod Agenda
+pub mod Answered
