@@ -33,10 +33,12 @@ impl Play {
         })
     }
 
+    /// The core, for what it tells.
     pub fn core(&self) -> &Core {
         &self.core
     }
 
+    /// How many participants there are.
     pub fn part_count(&self) -> u32 {
         self.plan.part_count()
     }

@@ -18,8 +18,7 @@ impl Local {
     }
 
     /// Whether a reply may come to the event that is out, which is what [`Local::take_reply`] wants. If it
-    /// answers true, the reply may come. Who asks a core of the same plan needs no test. It takes no
-    /// memory.
+    /// answers true, the reply may come. It takes no memory.
     pub fn fits(&self, reply: &Reply) -> bool
         ensures fitting { IsTrue result → IsReply self.now.plan self.now.part self.now.course reply.now }
     {
