@@ -1,4 +1,4 @@
-ghost use Rattle.std.specs.Prelude.{◌≡◌, ◌⊎◌, ◌↔◌, ℕ, ◌+◌, ◌<◌, ◌≤◌, [], ◌∷◌, ◌++◌, length, slice_get, slice_index, slice_index_or, pos, All, IsTrue, OnOk, OnErr, IfNone, IfOk, IfErr};
+ghost use Rattle.std.specs.Prelude.{◌≡◌, ◌⊎◌, ◌↔◌, ℕ, ◌+◌, ◌-◌, ◌<◌, ◌≤◌, [], ◌∷◌, ◌++◌, length, slice_get, slice_index, slice_index_or, pos, All, IsTrue, OnOk, OnErr, IfNone, IfOk, IfErr};
 ghost use Rattle.fixed_num.specs.Numbers.{IsValue};
 ghost use Rattle.waveform.specs.Shape.{IsLike};
 ghost use Rattle.waveform.specs.IsWave.{IsWave, times, fields, value_lists, first_time, last_time};
@@ -126,6 +126,14 @@ impl Wave {
         ensures { slice_get (fields self.now) i ≡ Some result.now }
     {
         &self.samples[i].field
+    }
+
+    /// The newest sample; the others are given up.
+    pub fn into_newest(self) -> Sample
+        ensures { slice_get self (length self - 1) ≡ Some result }
+    {
+        let mut samples = self.samples;
+        samples.pop().unwrap()
     }
 
     /// An equal wave in memory of its own.
