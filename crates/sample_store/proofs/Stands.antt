@@ -1,5 +1,5 @@
 -- What a store keeps stands for the list with one gift more.
-use Rattle.std.proofs.Common.{◌≡◌, ℕ, ◌+◌, ◌≤◌, Bool, true, false, inl, inr, List, [], ◌∷◌, Some, None, option_map, refl, sym, ap, subst, ◌∙◌, arith}
+use Rattle.std.proofs.Common.{◌≡◌, ℕ, ◌+◌, ◌≤◌, Bool, true, false, inl, inr, List, [], ◌∷◌, ◌++◌, Option, Some, None, option_map, refl, sym, ap, subst, ◌∙◌, arith}
 use Rattle.std.proofs.lemmas.Option.{none-some, same_Some}
 use Rattle.cpl_plan.specs.declared.words.Item.TheVariants.{Completed, Posted}
 use Rattle.coupled_loop.specs.Given.{Gift, found, gives, accepts}
@@ -7,11 +7,21 @@ use Rattle.waveform.specs.declared.sample.Sample.{Sample}
 use Rattle.sample_store.specs.declared.store.Iterate.{Iterate}
 use Rattle.sample_store.specs.ProgressOf.{progress_after}
 use Rattle.sample_store.specs.NextTurn.{next_turn}
+use Rattle.sample_store.specs.Ends.{WindowEnd, end_of_wave, window_end}
 use Rattle.sample_store.specs.Kept.{Kept}
 use Rattle.sample_store.specs.KeptSteps.{newest_kept, in_next_window, in_next_iteration, after_acceptance}
 use Rattle.sample_store.specs.StandsFor.{posted, completed, StandsFor}
 use Rattle.sample_store.proofs.Looks.{last_at_end, found_stays, found_new}
 use Rattle.sample_store.proofs.Orders.{window_in_order, iteration_in_order, acceptance_in_order, accepts_found}
+
+-- an end that was given stays
+end_stays : (given : List (Gift (List Sample))) (gift : Gift (List Sample)) (v : ℕ) (end : WindowEnd) → window_end given v ≡ Some end
+    → window_end (given ++ gift ∷ []) v ≡ Some end
+end_stays given gift v end is = by (found given (Completed v)) refl is where
+  by : (o : Option (Gift (List Sample))) → found given (Completed v) ≡ o → option_map (λ g. end_of_wave g.iteration g.post) o ≡ Some end
+      → window_end (given ++ gift ∷ []) v ≡ Some end
+  by (Some one) e here = ap (option_map (λ g. end_of_wave g.iteration g.post)) (found_stays given (gift ∷ []) (Completed v) one e) ∙ here
+  by None e here = absurd (none-some end here)
 
 -- what is kept, where the newest window is accepted or not
 abbrev judged : Kept → Bool → Kept
@@ -37,11 +47,11 @@ module _ (given : List (Gift (List Sample))) (kept : Kept) (wave : List Sample) 
     newest = λ h. found_new given first_post (Posted (W + 1) 1) (stands.order.later (Posted (W + 1) 1) (inl (omega arith))) refl;
     accepted = λ e. cc;
     previous = λ one e. absurd (none-some one e);
-    last = λ v one before e. let here : W ≡ v = omega arith in
-        found_stays given (first_post ∷ []) (Completed v) (completed v one)
-        (subst (λ (u : ℕ). found given (Completed u) ≡ Some (completed u one)) here
-        (subst (λ (x : Iterate). found given (Completed W) ≡ Some (completed W x)) (same_Some (newest_kept kept) one e) (stands.accepted refl)));
-    older = λ v one before e. found_stays given (first_post ∷ []) (Completed v) (completed v one) (stands.last v one (omega arith) e);
+    last = λ v end before e. let here : W ≡ v = omega arith in
+        end_stays given first_post v end
+        (subst (λ (u : ℕ). window_end given u ≡ Some end) here
+        (ap (option_map (λ g. end_of_wave g.iteration g.post)) (stands.accepted refl) ∙ e));
+    older = λ v end before e. end_stays given first_post v end (stands.last v end (omega arith) e);
   }
 
   iteration_stands : StandsFor given (judged kept false) → StandsFor (gives (Posted W (N + 1)) (N + 1) wave given) (in_next_iteration kept (N + 1) wave)
@@ -54,8 +64,8 @@ module _ (given : List (Gift (List Sample))) (kept : Kept) (wave : List Sample) 
         accepted = λ e. cc;
         previous = λ one e. found_stays given (next_post ∷ []) (Posted W one.iteration) (posted W one)
             (subst (λ (x : Iterate). found given (Posted W x.iteration) ≡ Some (posted W x)) (same_Some (newest_kept kept) one e) (stands.newest turn.1));
-        last = λ v one before e. found_stays given (next_post ∷ []) (Completed v) (completed v one) (stands.last v one before e);
-        older = λ v one before e. found_stays given (next_post ∷ []) (Completed v) (completed v one) (stands.older v one before e);
+        last = λ v end before e. end_stays given next_post v end (stands.last v end before e);
+        older = λ v end before e. end_stays given next_post v end (stands.older v end before e);
       }
 
 module _ (given : List (Gift (List Sample))) (kept : Kept) (stands : StandsFor given (judged kept false)) where
@@ -82,8 +92,8 @@ module _ (given : List (Gift (List Sample))) (kept : Kept) (stands : StandsFor g
         newest = λ h. found_stays given (acceptance ∷ []) (Posted window iteration) (posted window (newest_kept kept)) one;
         accepted = λ e. found_new given acceptance (Completed window) (stands.order.later (Completed window) (omega arith)) refl;
         previous = λ one e. found_stays given (acceptance ∷ []) (Posted window one.iteration) (posted window one) (stands.previous one e);
-        last = λ v one before e. found_stays given (acceptance ∷ []) (Completed v) (completed v one) (stands.last v one before e);
-        older = λ v one before e. absurd (none-some one e);
+        last = λ v end before e. end_stays given acceptance v end (stands.last v end before e);
+        older = λ v end before e. absurd (none-some end e);
       })
 
 module _ (given : List (Gift (List Sample))) (kept : Kept) (stands : StandsFor given kept) where

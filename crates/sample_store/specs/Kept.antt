@@ -1,8 +1,9 @@
--- What a store keeps, the same few waves however much was given. The project's own.
+-- What a store keeps, the same few waves and ends however much was given. The project's own.
 use Rattle.std.specs.Prelude.{◌≡◌, ◌+◌, ◌≤◌, false, List, Option, Some, IsSome}
 use Rattle.waveform.specs.declared.sample.Sample.{Sample}
 use Rattle.sample_store.specs.declared.progress.Progress.{Progress}
 use Rattle.sample_store.specs.declared.store.Iterate.{Iterate}
+use Rattle.sample_store.specs.Ends.{WindowEnd}
 
 pub record Kept : Type 0 where
   pub progress : Progress
@@ -10,9 +11,9 @@ pub record Kept : Type 0 where
   pub newest : List Sample
   -- the one before it, of the same window
   pub previous : Option Iterate
-  -- what was accepted for the window before the newest, and for the one before that
-  pub last : Option Iterate
-  pub older : Option Iterate
+  -- the ends of the window before the newest, and of the one before that
+  pub last : Option WindowEnd
+  pub older : Option WindowEnd
 
 -- what has to be there is there
 pub record IsKept (kept : Kept) : Type 0 where

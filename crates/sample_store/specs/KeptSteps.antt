@@ -1,12 +1,17 @@
--- What a store keeps after one gift more, and what it has of a window's end. The project's own.
-use Rattle.std.specs.Prelude.{ℕ, true, false, List, Option, Some, None, nat_eq, nat_lt, if◌then◌else◌}
+-- What a store keeps after one gift more. The project's own.
+use Rattle.std.specs.Prelude.{ℕ, true, false, List, Some, None}
 use Rattle.waveform.specs.declared.sample.Sample.{Sample}
 use Rattle.sample_store.specs.declared.store.Iterate.{Iterate}
+use Rattle.sample_store.specs.Ends.{WindowEnd, end_of_wave}
 use Rattle.sample_store.specs.Kept.{Kept}
 
 -- the newest post, with its iteration
 abbrev pub newest_kept : Kept → Iterate
 newest_kept kept = record { iteration = kept.progress.iteration; wave = kept.newest }
+
+-- the end of the newest post
+abbrev pub newest_end : Kept → WindowEnd
+newest_end kept = end_of_wave kept.progress.iteration kept.newest
 
 -- after the first post of window w
 abbrev pub in_next_window : Kept → (w : ℕ) → List Sample → Kept
@@ -14,7 +19,7 @@ in_next_window kept w wave = record {
   progress = record { window = w; iteration = 1; is_accepted = false };
   newest = wave;
   previous = None;
-  last = Some (newest_kept kept);
+  last = Some (newest_end kept);
   older = kept.last;
 }
 
@@ -37,10 +42,3 @@ after_acceptance kept = record {
   last = kept.last;
   older = None;
 }
-
--- what was accepted for the window before w, where it is held
-abbrev pub kept_end : Kept → (w : ℕ) → Option Iterate
-kept_end kept w =
-    if nat_lt kept.progress.window w then Some (newest_kept kept)
-    else if nat_eq w kept.progress.window then kept.last
-    else kept.older

@@ -1,4 +1,6 @@
 -- What a store keeps, of its fields. The project's own.
+use Rattle.std.specs.Prelude.{option_map}
+use Rattle.sample_store.specs.EndView.{end_view}
 use Rattle.sample_store.specs.Kept.{Kept}
 use Rattle.sample_store.specs.declared.store.Store.TheInside.{Inside}
 
@@ -7,6 +9,6 @@ kept_view store = record {
   progress = record { window = store.window; iteration = store.newest.iteration; is_accepted = store.is_accepted };
   newest = store.newest.wave;
   previous = store.previous;
-  last = store.last;
-  older = store.older;
+  last = option_map end_view store.last;
+  older = option_map end_view store.older;
 }

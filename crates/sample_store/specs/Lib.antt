@@ -3,6 +3,7 @@ pub mod NextTurn
 pub mod Held
 pub mod Ends
 pub mod InOrder
+pub mod EndView
 pub mod Kept
 pub mod KeptView
 pub mod KeptSteps

@@ -6,6 +6,7 @@ use Rattle.waveform.specs.declared.sample.Sample.{Sample}
 use Rattle.sample_store.specs.declared.store.Iterate.{Iterate}
 use Rattle.sample_store.specs.ProgressOf.{progress_of}
 use Rattle.sample_store.specs.InOrder.{IsInOrder}
+use Rattle.sample_store.specs.Ends.{WindowEnd, window_end}
 use Rattle.sample_store.specs.Kept.{Kept}
 
 -- a post of window w, and what was accepted for it
@@ -24,7 +25,5 @@ pub record StandsFor (given : List (Gift (List Sample))) (kept : Kept) : Type 0 
       ≡ Some (completed kept.progress.window (record { iteration = kept.progress.iteration; wave = kept.newest }))
   pub previous : (one : Iterate) → kept.previous ≡ Some one
       → found given (Posted kept.progress.window one.iteration) ≡ Some (posted kept.progress.window one)
-  pub last : (v : ℕ) (one : Iterate) → v + 1 ≡ kept.progress.window → kept.last ≡ Some one
-      → found given (Completed v) ≡ Some (completed v one)
-  pub older : (v : ℕ) (one : Iterate) → v + 2 ≡ kept.progress.window → kept.older ≡ Some one
-      → found given (Completed v) ≡ Some (completed v one)
+  pub last : (v : ℕ) (end : WindowEnd) → v + 1 ≡ kept.progress.window → kept.last ≡ Some end → window_end given v ≡ Some end
+  pub older : (v : ℕ) (end : WindowEnd) → v + 2 ≡ kept.progress.window → kept.older ≡ Some end → window_end given v ≡ Some end

@@ -4,8 +4,9 @@ ghost use Rattle.coupled_loop.specs.Given.{Gift, found, gives, accepts};
 ghost use Rattle.waveform.specs.declared.sample.Sample.{Sample};
 ghost use Rattle.sample_store.specs.NextTurn.{next_turn};
 ghost use Rattle.sample_store.specs.Held.{HoldsEndBefore, HoldsIterate, HoldsAccepted};
-ghost use Rattle.sample_store.specs.Ends.{end_sample};
-ghost use Rattle.sample_store.specs.KeptSteps.{in_next_window, in_next_iteration, kept_end};
+ghost use Rattle.sample_store.specs.Ends.{end_sample, end_of_wave, window_end};
+ghost use Rattle.sample_store.specs.KeptSteps.{in_next_window, in_next_iteration};
+ghost use Rattle.sample_store.specs.EndView.{end_view, held_view};
 ghost use Rattle.sample_store.specs.StandsFor.{StandsFor};
 
 use crate::progress::Progress;
@@ -13,7 +14,7 @@ use fixed_num::Memory;
 use std::alloc::Global;
 use std::marker::Model;
 use std::mem::replace;
-use waveform::{Field, Wave};
+use waveform::{Field, Sample, Wave};
 
 /// What was posted, and in which iteration; 0 for initial values.
 #[derive(Drop)]
@@ -22,11 +23,26 @@ pub(crate) struct Iterate {
     pub wave: Wave,
 }
 
+/// What was accepted at the end of a window, and in which iteration; 0 for initial values.
+#[derive(Drop)]
+pub(crate) struct End {
+    pub iteration: u32,
+    pub sample: Sample,
+}
+
+/// An end that is held, wherever it is kept.
+#[derive(Clone, Copy)]
+struct HeldEnd<'a> {
+    iteration: u32,
+    time: u64,
+    field: &'a Field,
+}
+
 /// What is kept of all posts of one exchange, and of their acceptances.
 ///
 /// It stands for the list of all gifts: the initial values, the posts, and the acceptances in
-/// between. It holds what was accepted at the end of the newest accepted window and of the one before,
-/// and the newest window's last two iterates, and no more.
+/// between. It holds the newest window's last two iterates, and of the two windows before it the ends
+/// alone, and no more.
 #[derive(Drop)]
 pub struct Store {
     window: u32,
@@ -34,10 +50,47 @@ pub struct Store {
     newest: Iterate,
     /// The iterate before the newest, of the same window.
     previous: Option<Iterate>,
-    /// What was accepted for the window before the newest.
-    last: Option<Iterate>,
-    /// What was accepted for the one before that; given up once the newest is accepted.
-    older: Option<Iterate>,
+    /// The end of the window before the newest.
+    last: Option<End>,
+    /// The end of the one before that; given up once the newest is accepted.
+    older: Option<End>,
+}
+
+impl Iterate {
+    /// The end of the window, where this is accepted.
+    fn end(&self) -> HeldEnd<'_>
+        ensures { held_view result ≡ end_of_wave (self.now).iteration (self.now).wave }
+    {
+        let newest = self.wave.len() - 1;
+        HeldEnd {
+            iteration: self.iteration,
+            time: self.wave.time(newest),
+            field: self.wave.field(newest),
+        }
+    }
+
+    /// The same, kept without the other samples, which are given up.
+    fn into_end(self) -> End
+        ensures { end_view result ≡ end_of_wave self.iteration self.wave }
+    {
+        End {
+            iteration: self.iteration,
+            sample: self.wave.into_newest(),
+        }
+    }
+}
+
+impl End {
+    /// The same, lent.
+    fn held(&self) -> HeldEnd<'_>
+        ensures { held_view result ≡ end_view self.now }
+    {
+        HeldEnd {
+            iteration: self.iteration,
+            time: self.sample.time,
+            field: &self.sample.field,
+        }
+    }
 }
 
 impl Model for Store {
@@ -124,8 +177,7 @@ impl Store {
         ensures looked_up { (given : List (Gift (List Sample))) → StandsFor given self.now →
             option_map (λ s. s.field) (end_sample given (w - 1)) ≡ Some result.now }
     {
-        let wave = &self.end(w).wave;
-        wave.field(wave.len() - 1)
+        self.end(w).field
     }
 
     /// The time of these values in ticks: the end of window w - 1, which is the start of window w.
@@ -134,8 +186,7 @@ impl Store {
         ensures looked_up { (given : List (Gift (List Sample))) → StandsFor given self.now →
             option_map (λ s. s.time) (end_sample given (w - 1)) ≡ Some result }
     {
-        let wave = &self.end(w).wave;
-        wave.time(wave.len() - 1)
+        self.end(w).time
     }
 
     /// The iteration that these values come from; 0 for initial values.
@@ -181,17 +232,18 @@ impl Store {
         }
     }
 
-    /// What was accepted for window w - 1.
-    fn end(&self, w: u32) -> &Iterate
+    /// The end of window w - 1.
+    fn end(&self, w: u32) -> HeldEnd<'_>
         requires held { HoldsEndBefore self.now.progress w }
-        ensures { kept_end self.now w ≡ Some result.now }
+        ensures looked_up { (given : List (Gift (List Sample))) → StandsFor given self.now →
+            window_end given (w - 1) ≡ Some (held_view result) }
     {
         if w > self.window {
-            &self.newest
+            self.newest.end()
         } else if w == self.window {
-            self.last.as_ref().unwrap()
+            self.last.as_ref().unwrap().held()
         } else {
-            self.older.as_ref().unwrap()
+            self.older.as_ref().unwrap().held()
         }
     }
 
@@ -202,7 +254,7 @@ impl Store {
         ensures { self.new ≡ in_next_window self.old w wave }
     {
         let before = replace(&mut self.newest, Iterate { iteration: 1, wave });
-        self.older = replace(&mut self.last, Some(before));
+        self.older = replace(&mut self.last, Some(before.into_end()));
         self.previous = None;
         self.window = w;
         self.is_accepted = false;
