@@ -1,13 +1,14 @@
 #!/usr/bin/env bash
 # Times the events of two participants under a serial-explicit scheme: of one value each at 10^4, 10^5
 # and 10^6 windows, and of 10,000 vertices with 10 samples a window, beside making and copying the same
-# waves without a core, in the same run. README.md here says how to read the table.
+# waves without a core, held as long as a core holds them or not, in the same run. README.md here says
+# how to read the table.
 #
 # The program that makes the events is written below, proved and built in a temporary folder.
 set -euo pipefail
 here=$(dirname "$(readlink -f "${BASH_SOURCE[0]}")")
 top=$(dirname "$here")
-many=${1:-300}
+many=${1:-300} # windows of the last row
 
 room=$(mktemp -d)
 trap 'rm -rf "$room"' EXIT
@@ -217,8 +218,8 @@ END
 
 cat >"$crate/src/main.rt" <<'END'
 //! Makes the events of two participants in so many windows, with so many vertices and samples, and
-//! prints how many there were; or makes the waves of those events without a core, and copies them or
-//! not.
+//! prints how many there were; or makes the waves of those events without a core, and copies and holds
+//! them or not.
 #![tactic(auto)]
 
 mod lists;
@@ -348,20 +349,34 @@ impl Pair {
     }
 }
 
+/// What is done with waves, beside making them.
+#[derive(Clone, Copy)]
+struct Uses {
+    copying: bool,
+    holding: bool,
+}
+
 /// Makes the two waves of each window. If asked, copies what is taken: all samples of the first, with
-/// a value before them, and the newest value of the second.
-fn waves(alloc: Global, sizes: Sizes, windows: u32, copying: bool) -> Result<u64, Memory> {
+/// a value before them, and the newest value of the second. If asked, holds each wave until the next
+/// of its direction is made, as a core does, so that the two newest are there at once.
+fn waves(alloc: Global, sizes: Sizes, windows: u32, uses: Uses) -> Result<u64, Memory> {
+    let mut held_forth = None;
+    let mut held_back = None;
     for w in 0..windows {
         let end = (u64::from(w) + 1) * 10;
         let forth = wave_of(alloc, sizes.vertices, sizes.samples, end)?;
-        if copying {
+        if uses.copying {
             copy(alloc, &forth, true)?;
         }
+        held_forth = if uses.holding { Some(forth) } else { None };
         let back = wave_of(alloc, sizes.vertices, sizes.samples, end)?;
-        if copying {
+        if uses.copying {
             copy(alloc, &back, false)?;
         }
+        held_back = if uses.holding { Some(back) } else { None };
     }
+    drop(held_forth);
+    drop(held_back);
     Ok(u64::from(windows))
 }
 
@@ -378,7 +393,11 @@ fn copy(alloc: Global, wave: &Wave, all: bool) -> Result<(), Memory> {
 
 fn run(alloc: Global, work: &str, sizes: Sizes, windows: u32) -> Result<u64, Memory> {
     if work != "core" {
-        return waves(alloc, sizes, windows, work == "copies");
+        let uses = Uses {
+            copying: work != "waves",
+            holding: work == "held",
+        };
+        return waves(alloc, sizes, windows, uses);
     }
     Pair::new(alloc, sizes)?.events(alloc, windows)
 }
@@ -386,10 +405,10 @@ fn run(alloc: Global, work: &str, sizes: Sizes, windows: u32) -> Result<u64, Mem
 fn main(rt: HostRuntime) -> anyhow::Result<()> {
     let mut words = env::args(&rt)?;
     let (Some(work), Some(windows)) = (words.nth(1), words.next()) else {
-        return Err(anyhow!("core_events <core, copies or waves> <windows> <vertices> <samples>"));
+        return Err(anyhow!("core_events <core, held, copies or waves> <windows> <vertices> <samples>"));
     };
     let (Some(vertices), Some(samples)) = (words.next(), words.next()) else {
-        return Err(anyhow!("core_events <core, copies or waves> <windows> <vertices> <samples>"));
+        return Err(anyhow!("core_events <core, held, copies or waves> <windows> <vertices> <samples>"));
     };
     let windows = windows.parse::<u32>()?;
     let sizes = Sizes {
@@ -426,40 +445,38 @@ done
 export MALLOC_TRIM_THRESHOLD_=1000000000
 TIMEFORMAT='%U %S'
 
-# processor seconds of some runs, the least
-least() { # times program and its words..
-    local times=$1
-    shift
-    for _ in $(seq "$times"); do
-        { time "$@" >/dev/null; } 2>&1
-    done | awk '{ print $1 + $2 }' | sort -g | head -n 1
+# the least processor seconds of each work; runs take turns, so that other work on the machine disturbs
+# all alike
+least() { # times windows vertices samples
+    local work
+    for _ in $(seq "$1"); do
+        for work in core held copies waves; do
+            echo "$work $({ time "$program" "$work" "$2" "$3" "$4" >/dev/null; } 2>&1)"
+        done
+    done | awk '{ s = $2 + $3; if (!($1 in least) || s < least[$1]) least[$1] = s }
+        END { print least["core"], least["held"], least["copies"], least["waves"] }'
 }
 
-# the processor seconds of some work, less those of its first window
-spent() { # times work windows vertices samples
-    local s0 s
-    s0=$(least 20 "$program" "$2" 1 "$4" "$5")
-    s=$(least "$1" "$program" "$2" "$3" "$4" "$5")
-    awk -v s="$s" -v s0="$s0" 'BEGIN { print s - s0 }'
+# the greatest resident memory of a run
+resident() { # work windows vertices samples
+    "$measure" 1 "$program" "$@" | cut -d ' ' -f 2
 }
 
 row() { # times windows vertices samples
-    local core copies waves room_core room_copies
-    core=$(spent "$1" core "$2" "$3" "$4")
-    copies=$(spent "$1" copies "$2" "$3" "$4")
-    waves=$(spent "$1" waves "$2" "$3" "$4")
-    read -r _ room_core < <("$measure" 1 "$program" core "$2" "$3" "$4")
-    read -r _ room_copies < <("$measure" 1 "$program" copies "$2" "$3" "$4")
-    awk -v w="$2" -v v="$3" -v k="$4" -v a="$core" -v m="$room_core" -v b="$copies" -v n="$room_copies" \
-        -v c="$waves" 'BEGIN {
-            us = 1e6 / (w - 1)
-            printf "%8d %8d %7d | %10.3f %9.0f %7d | %10.3f %7d | %10.3f | %5.2f\n", w, v, k,
-                a * us, 4 * (w - 1) / a, m, b * us, n, c * us, a / b
+    local first all
+    first=$(least 20 1 "$3" "$4")
+    all=$(least "$@")
+    echo "$2 $3 $4 $first $all $(resident core "$2" "$3" "$4") $(resident held "$2" "$3" "$4") $(resident copies "$2" "$3" "$4")" |
+        awk '{
+            us = 1e6 / ($1 - 1)
+            core = ($8 - $4) * us; held = ($9 - $5) * us; copies = ($10 - $6) * us; waves = ($11 - $7) * us
+            printf "%8d %8d %7d | %10.3f %9.0f %7d | %10.3f %7d %5.2f | %10.3f %7d %5.2f | %10.3f\n", $1, $2, $3,
+                core, 4e6 / core, $12, held, $13, core / held, copies, $14, core / copies, waves
         }'
 }
-printf '%8s %8s %7s | %10s %9s %7s | %10s %7s | %10s | %5s\n' \
-    windows vertices samples 'core us' events/s KiB 'copies us' KiB 'waves us' ratio
+printf '%8s %8s %7s | %10s %9s %7s | %10s %7s %5s | %10s %7s %5s | %10s\n' \
+    windows vertices samples 'core us' events/s KiB 'held us' KiB ratio 'copies us' KiB ratio 'waves us'
 row 9 10000 1 1
 row 9 100000 1 1
 row 9 1000000 1 1
-row 40 "$many" 10000 10
+row "${2:-40}" "$many" 10000 10
